@@ -1,0 +1,5 @@
+pub mod Cuts
+pub mod Formulas
+pub mod Reading
+pub mod Tokens
+pub mod Ways
