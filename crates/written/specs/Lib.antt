@@ -1,0 +1,3 @@
+pub mod Matching
+pub mod Model
+pub mod Store
