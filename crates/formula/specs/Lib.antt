@@ -1,4 +1,5 @@
 pub mod Cuts
+pub mod Faults
 pub mod Formulas
 pub mod Reading
 pub mod Tokens

@@ -17,6 +17,7 @@ use Rattle.formula.specs.declared.token.Bracket.{Bracket}
 use Rattle.formula.specs.declared.token.Bracket.the-variants.{Round, Brace}
 use Rattle.formula.specs.Tokens.{Word, mark, open-with, close-with, connector}
 use Rattle.formula.specs.Formulas.{Formula, one, row, Item, named, empty, within, Items, first, then, tokens, depth}
+use Rattle.formula.specs.Faults.{fault}
 use Rattle.formula.specs.Cuts.{Cut, ends, fails, token, cut}
 
 -- What stands of a formula before the item that is wanted: nothing, or items with the mark that joins them.
@@ -79,9 +80,6 @@ open-depth (inside k b o) = suc (open-depth o)
 abbrev pub state-depth : State → ℕ
 state-depth (wants b o) = open-depth o
 state-depth (has f o) = open-depth o
-
-abbrev pub fault : ℕ → Refusal → FormulaFault
-fault p r = record { place = p; refusal = r }
 
 abbrev pub finished : State → ℕ → Result Formula FormulaFault
 finished (wants b o) p = Err (fault p OutOfPlace)

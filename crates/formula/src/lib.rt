@@ -3,5 +3,6 @@
 //! - `fault`: a refusal with its place in the formula.
 //! - `token`: the tokens, each a part of the formula.
 
+pub mod cut;
 pub mod fault;
 pub mod token;

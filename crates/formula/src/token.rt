@@ -17,6 +17,13 @@ pub enum Bracket {
     Brace,
 }
 
+/// The letters of a connector's name: capitals first, then small letters, of which `*` stands for any.
+#[derive(Clone, Copy)]
+pub enum Letter {
+    Capital,
+    Small,
+}
+
 /// A token, which borrows a connector's name from the formula.
 #[derive(Clone, Copy)]
 pub enum Token<'a> {
