@@ -1,0 +1,78 @@
+-- What is cut into tokens, with the spaces between, is the bytes, each once and in order.
+--
+-- A token that is found at the front of bytes is spelled there. So after the first of its bytes the cut skips the rest of
+-- its spelling and goes on with what follows; and a cut that skips k bytes is the cut of what is left of them.
+use mathlib.Core.Bool.{true, false, cond, _&&_}
+use mathlib.Core.List.{List, [], _∷_, _++_, append-assoc}
+use mathlib.Core.Logic.{_⊎_, inl, inr}
+use mathlib.Core.Path.{_≡_, refl, sym, ap, ap₂, subst, _∙_}
+use Prim.Native.Nat.{ℕ, zero, suc, pred, _+_, _≤_, _<_}
+use native.Mathlib.Nat.{add-zero, not-suc-le-zero}
+use native.Mathlib.Omega.{arith}
+use lib.Dec.{eqb, leb, ltb}
+use lib.ListN.{length, take, drop, getD, replicate, length-append, List·getD-eq-default}
+use lib.Seq.{split-at}
+use Rattle.std.proofs.shelf.Tests.{cond-both, cases-lt, and-parts, eqb-true, eqb-false}
+use Rattle.std.specs.declared.result.Result.{Result}
+use Rattle.std.specs.declared.result.Result.the-variants.{Ok, Err}
+use Rattle.lexicon.specs.declared.side.Side.the-variants.{Left, Right}
+use Rattle.refusal.specs.declared.Refusal.{Refusal}
+use Rattle.formula.specs.declared.token.Join.the-variants.{And, Or}
+use Rattle.formula.specs.declared.token.Bracket.the-variants.{Round, Brace}
+use Rattle.formula.specs.Tokens.{Name, Word, mark, open-with, close-with, connector, spelled}
+use Rattle.formula.specs.Cuts.{capital, name-length, signed, token-at, Cut, cut, cut-after, Laid, at-end, next, no-token}
+
+pub cut-skip : (k p : ℕ) (bs : List ℕ) → k ≤ length bs → cut-after k p bs ≡ cut-after 0 (p + k) (drop k bs)
+unfolding cut-after
+cut-skip zero p bs h = rw add-zero
+cut-skip (suc k) p [] h = absurd (not-suc-le-zero h)
+cut-skip (suc k) p (b ∷ bs) h =
+    let e : suc p + k ≡ p + suc k = omega arith in
+    cut-skip k (suc p) bs (omega arith) ∙ ap (λ q. cut-after 0 q (drop k bs)) e
+
+-- If a token is given, it is spelled at the front.
+abbrev Front : List ℕ → Result Word Refusal → Type 0
+Front bs (Ok w) = (rest : List ℕ) × (bs ≡ spelled w ++ rest)
+Front bs (Err r) = Unit {0}
+
+signed-front : (n : Name) (b : ℕ) (bs rest : List ℕ) → bs ≡ n ++ (b ∷ rest) → Front bs (signed n b)
+signed-front n b bs rest e =
+    cond-both (eqb b 43) _ _ (Front bs) (λ t. (rest, at 43 (eqb-true b 43 t))) λ _.
+    cond-both (eqb b 45) _ _ (Front bs) (λ t. (rest, at 45 (eqb-true b 45 t))) λ _. tt
+  where
+    at : (c : ℕ) → b ≡ c → bs ≡ (n ++ (c ∷ [])) ++ rest
+    at c u = e ∙ ap (λ x. n ++ (x ∷ rest)) u ∙ sym (append-assoc n (c ∷ []) rest)
+
+name-front : (n : ℕ) (bs : List ℕ) → Front bs (signed (take n bs) (getD bs n 0))
+name-front n bs = go (cases-lt n (length bs))
+  where
+    go : (n < length bs) ⊎ (length bs ≤ n) → Front bs (signed (take n bs) (getD bs n 0))
+    go (inl h) = signed-front (take n bs) (getD bs n 0) bs (drop (suc n) bs) (split-at bs n 0 h)
+    go (inr h) = rw (List·getD-eq-default bs 0 h) tt
+
+or-front : (b : ℕ) (bs : List ℕ) → b ≡ 111 → getD bs 0 0 ≡ 114 → Front (b ∷ bs) (Ok (mark Or))
+or-front b [] e u = absurd (omega arith)
+or-front b (c ∷ bs) e u = (bs, cc)
+
+found : (b : ℕ) (bs : List ℕ) → Front (b ∷ bs) (token-at b bs)
+found b bs =
+    cond-both (capital b) _ _ P
+      (λ _. cond-both (ltb 8 n) _ _ P (λ _. tt) λ _. name-front n (b ∷ bs)) λ _.
+    cond-both (eqb b 38) _ _ P (λ t. (bs, same (eqb-true b 38 t))) λ _.
+    cond-both (eqb b 111 && eqb (getD bs 0 0) 114) _ _ P
+      (λ t. let h = and-parts (eqb b 111) (eqb (getD bs 0 0) 114) t in
+        or-front b bs (eqb-true b 111 (h .0)) (eqb-true (getD bs 0 0) 114 (h .1))) λ _.
+    cond-both (eqb b 40) _ _ P (λ t. (bs, same (eqb-true b 40 t))) λ _.
+    cond-both (eqb b 123) _ _ P (λ t. (bs, same (eqb-true b 123 t))) λ _.
+    cond-both (eqb b 41) _ _ P (λ t. (bs, same (eqb-true b 41 t))) λ _.
+    cond-both (eqb b 125) _ _ P (λ t. (bs, same (eqb-true b 125 t))) λ _. tt
+  where
+    n : ℕ
+    n = name-length (b ∷ bs)
+    P : Result Word Refusal → Type 0
+    P = Front (b ∷ bs)
+    same : {c : ℕ} → b ≡ c → b ∷ bs ≡ c ∷ bs
+    same e = ap (λ x. x ∷ bs) e
+
+pub token-front : (b : ℕ) (bs : List ℕ) (w : Word) → token-at b bs ≡ Ok w → (rest : List ℕ) × (b ∷ bs ≡ spelled w ++ rest)
+token-front b bs w e = subst (Front (b ∷ bs)) e (found b bs)
