@@ -1,0 +1,244 @@
+-- The reading of a formula is the one answer that its tokens have.
+--
+-- A state of the reader keeps all that was said: from it `spoken` has the tokens again, and `height` how deep their
+-- brackets nest, the open ones included. A step adds its token to what is spoken, and its state's depth to the height. So a
+-- run over the tokens of a formula ends with that formula, and one that ends with a formula went over its tokens. From any
+-- state a formula can be ended with no more brackets opened. Hence tokens can be continued to a formula just if there is a
+-- run over them, and to one of an allowed depth just if the height stays so: which is what the reader asks.
+use mathlib.Core.Bool.{Bool, true, false, cond}
+use mathlib.Core.List.{List, [], _∷_, _++_, append-nil, append-assoc}
+use mathlib.Core.Path.{_≡_, refl, sym, ap, subst, _∙_}
+use Prim.Native.Nat.{ℕ, suc, max, _+_, _≤_, _<_}
+use native.Mathlib.Omega.{arith}
+use lib.Dec.{ltb}
+use Rattle.std.proofs.shelf.Tests.{cond-true, cond-false, lt-ltb, le-ltb, ltb-true, ltb-false}
+use Rattle.std.specs.declared.option.Option.{Option}
+use Rattle.std.specs.declared.option.Option.the-variants.{Some, None}
+use Rattle.std.specs.declared.result.Result.{Result}
+use Rattle.std.specs.declared.result.Result.the-variants.{Ok, Err}
+use Rattle.lexicon.specs.declared.side.Side.the-variants.{Left, Right}
+use Rattle.refusal.specs.declared.Refusal.{Refusal}
+use Rattle.refusal.specs.declared.Refusal.the-variants.{OutOfPlace, TooDeep}
+use Rattle.formula.specs.declared.fault.FormulaFault.{FormulaFault}
+use Rattle.formula.specs.declared.token.Join.{Join}
+use Rattle.formula.specs.declared.token.Join.the-variants.{And, Or}
+use Rattle.formula.specs.declared.token.Bracket.{Bracket}
+use Rattle.formula.specs.declared.token.Bracket.the-variants.{Round, Brace}
+use Rattle.formula.specs.Tokens.{Word, mark, open-with, close-with, connector}
+use Rattle.formula.specs.Formulas.{Formula, one, row, Item, named, empty, within, Items, first, then, tokens, item-tokens, row-tokens, depth, item-depth, row-depth}
+use Rattle.formula.specs.Cuts.{Cut, ends, fails, token, cut}
+use Rattle.formula.specs.Reading.{Before, nothing, after, Open, top, inside, State, wants, has, add, close-empty, close, go-on, step, open-depth, state-depth, fault, finished, judged, read, start, After, here, later, Possible, Allowed, Answer, accepted, misplaced, unfinished, too-deep, no-token, Right-answer}
+
+-- What was said.
+
+abbrev spoken-before : Before → List Word
+spoken-before nothing = []
+spoken-before (after j is) = row-tokens j is ++ (mark j ∷ [])
+
+abbrev spoken-open : Open → List Word
+spoken-open top = []
+spoken-open (inside k b o) = spoken-open o ++ (spoken-before b ++ (open-with k ∷ []))
+
+abbrev spoken : State → List Word
+spoken (wants b o) = spoken-open o ++ spoken-before b
+spoken (has f o) = spoken-open o ++ tokens f
+
+-- How deep it nests.
+
+abbrev before-depth : Before → ℕ
+before-depth nothing = 0
+before-depth (after j is) = row-depth is
+
+abbrev base : Open → ℕ
+base top = 0
+base (inside k b o) = max (base o) (open-depth o + before-depth b)
+
+abbrev height : State → ℕ
+height (wants b o) = max (base o) (open-depth o + before-depth b)
+height (has f o) = max (base o) (open-depth o + depth f)
+
+depth-height : (s : State) → state-depth s ≤ height s
+depth-height (wants b o) = omega arith
+depth-height (has f o) = omega arith
+
+add-tokens : (b : Before) (i : Item) → tokens (add b i) ≡ spoken-before b ++ item-tokens i
+unfolding tokens
+add-tokens nothing i = refl
+add-tokens (after j is) i = sym (append-assoc (row-tokens j is) (mark j ∷ []) (item-tokens i))
+
+add-depth : (b : Before) (i : Item) → depth (add b i) ≡ max (before-depth b) (item-depth i)
+unfolding depth
+add-depth nothing i = omega arith
+add-depth (after j is) i = refl
+
+-- What a step adds.
+abbrev Adds : State → Word → Option State → Type 0
+Adds s w None = Unit {0}
+Adds s w (Some t) = (spoken t ≡ spoken s ++ (w ∷ [])) × (height t ≡ max (height s) (state-depth t))
+
+adds-item : (b : Before) (o : Open) (i : Item) → (spoken (has (add b i) o) ≡ spoken (wants b o) ++ item-tokens i) × (height (has (add b i) o) ≡ max (height (wants b o)) (open-depth o + item-depth i))
+adds-item b o i =
+    (rw add-tokens (sym (append-assoc (spoken-open o) (spoken-before b) (item-tokens i))), omega (arith, add-depth b i))
+
+adds-close : (k : Bracket) (f : Formula) (b : Before) (o : Open) → Adds (has f (inside k b o)) (close-with k) (Some (has (add b (within k f)) o))
+unfolding item-tokens item-depth open-depth
+adds-close k f b o =
+    let h = adds-item b o (within k f) in
+    (h .0 ∙ simp append-assoc, omega arith)
+
+adds-mark : (j : Join) (is : Items) (i : Item) (o : Open) → Adds (has (row j is i) o) (mark j) (Some (wants (after j (then is i)) o))
+unfolding tokens row-tokens depth row-depth
+adds-mark j is i o = (simp append-assoc, omega arith)
+
+adds : (s : State) (w : Word) → Adds s w (step s w)
+unfolding tokens row-tokens item-tokens depth row-depth item-depth open-depth
+adds (wants b o) (mark j) = tt
+adds (wants b o) (open-with k) = (simp (append-nil, append-assoc), omega arith)
+adds (wants nothing top) (close-with k) = tt
+adds (wants nothing (inside Round b o)) (close-with Round) =
+    let h = adds-item b o empty in
+    (h .0 ∙ simp (append-nil, append-assoc), omega arith)
+adds (wants nothing (inside Round b o)) (close-with Brace) = tt
+adds (wants nothing (inside Brace b o)) (close-with k) = tt
+adds (wants (after j is) o) (close-with k) = tt
+adds (wants b o) (connector s n) =
+    let h = adds-item b o (named s n) in
+    (h .0, omega arith)
+adds (has (one i) o) (mark j) = (sym (append-assoc (spoken-open o) (item-tokens i) (mark j ∷ [])), omega arith)
+adds (has (row And is i) o) (mark And) = adds-mark And is i o
+adds (has (row And is i) o) (mark Or) = tt
+adds (has (row Or is i) o) (mark And) = tt
+adds (has (row Or is i) o) (mark Or) = adds-mark Or is i o
+adds (has f o) (open-with k) = tt
+adds (has f top) (close-with k) = tt
+adds (has f (inside Round b o)) (close-with Round) = adds-close Round f b o
+adds (has f (inside Round b o)) (close-with Brace) = tt
+adds (has f (inside Brace b o)) (close-with Round) = tt
+adds (has f (inside Brace b o)) (close-with Brace) = adds-close Brace f b o
+adds (has f o) (connector s n) = tt
+
+-- Runs.
+
+abbrev steps : Option State → List Word → Option State
+steps o [] = o
+steps None (w ∷ ws) = None
+steps (Some s) (w ∷ ws) = steps (step s w) ws
+
+steps-none : (ws : List Word) → steps None ws ≡ None
+steps-none [] = refl
+steps-none (w ∷ ws) = refl
+
+steps-append : (o : Option State) (ws more : List Word) → steps o (ws ++ more) ≡ steps (steps o ws) more
+steps-append o [] more = refl
+steps-append None (w ∷ ws) more = sym (steps-none more)
+steps-append (Some s) (w ∷ ws) more = steps-append (step s w) ws more
+
+some-none : {A : Type 0} {s : A} → None ≡ Some s → ⊥
+some-none e = let z : _≡_ {A = ℕ} 0 1 = cc in omega arith
+
+-- What a run adds.
+ran : (s : State) (ws : List Word) (t : State) → steps (Some s) ws ≡ Some t → (spoken t ≡ spoken s ++ ws) × (height s ≤ height t)
+ran s [] t e =
+    let q : s ≡ t = cc in
+    (sym (append-nil (spoken s) ∙ ap spoken q), omega (arith, ap height q))
+ran s (w ∷ ws) t e = go (step s w) (adds s w) e (λ u. ran u ws t)
+  where
+    go : (o : Option State) → Adds s w o → steps o ws ≡ Some t → ((u : State) → steps (Some u) ws ≡ Some t → (spoken t ≡ spoken u ++ ws) × (height u ≤ height t)) → (spoken t ≡ spoken s ++ (w ∷ ws)) × (height s ≤ height t)
+    go None a q ih = absurd (some-none (sym (steps-none ws) ∙ q))
+    go (Some u) a q ih =
+        let h = ih u q in
+        (h .0 ∙ ap (λ l. l ++ ws) (a .0) ∙ append-assoc (spoken s) (w ∷ []) ws, omega arith)
+
+-- A run over the tokens of a formula ends with it.
+
+-- The formula that the items of a row make.
+abbrev made : Join → Items → Formula
+made j (first i) = one i
+made j (then is i) = row j is i
+
+close-same : (k : Bracket) (f : Formula) (b : Before) (o : Open) → close f (inside k b o) k ≡ Some (has (add b (within k f)) o)
+close-same Round f b o = refl
+close-same Brace f b o = refl
+
+go-on-same : (j : Join) (is : Items) (o : Open) → go-on (made j is) j o ≡ Some (wants (after j is) o)
+go-on-same j (first i) o = refl
+go-on-same And (then is i) o = refl
+go-on-same Or (then is i) o = refl
+
+run-row : (j : Join) (is : Items) (i : Item) (o : Open) → steps (Some (wants nothing o)) (row-tokens j is) ≡ Some (has (made j is) o) → steps (Some (wants (after j is) o)) (item-tokens i) ≡ Some (has (row j is i) o) → steps (Some (wants nothing o)) (row-tokens j is ++ (mark j ∷ item-tokens i)) ≡ Some (has (row j is i) o)
+run-row j is i o p q =
+    steps-append (Some (wants nothing o)) (row-tokens j is) (mark j ∷ item-tokens i)
+      ∙ ap (λ r. steps r (mark j ∷ item-tokens i)) p ∙ ap (λ r. steps r (item-tokens i)) (go-on-same j is o) ∙ q
+
+mutual
+  unfolding tokens item-tokens row-tokens
+
+  run-formula : (f : Formula) (o : Open) → steps (Some (wants nothing o)) (tokens f) ≡ Some (has f o)
+  run-formula (one i) o = run-item i nothing o
+  run-formula (row j is i) o = run-row j is i o (run-items is j o) (run-item i (after j is) o)
+
+  run-item : (i : Item) (b : Before) (o : Open) → steps (Some (wants b o)) (item-tokens i) ≡ Some (has (add b i) o)
+  run-item (named s n) b o = refl
+  run-item empty b o = refl
+  run-item (within k f) b o =
+      steps-append (Some (wants nothing (inside k b o))) (tokens f) (close-with k ∷ [])
+        ∙ ap (λ r. steps r (close-with k ∷ [])) (run-formula f (inside k b o)) ∙ close-same k f b o
+
+  run-items : (is : Items) (j : Join) (o : Open) → steps (Some (wants nothing o)) (row-tokens j is) ≡ Some (has (made j is) o)
+  run-items (first i) j o = run-item i nothing o
+  run-items (then is i) j o = run-row j is i o (run-items is j o) (run-item i (after j is) o)
+
+-- Tokens that can be continued, and runs.
+
+abbrev Run : List Word → State → Type 0
+Run ws s = steps (Some start) ws ≡ Some s
+
+onward : (ws : List Word) (s : State) (w : Word) → Run ws s → steps (Some start) (ws ++ (w ∷ [])) ≡ step s w
+onward ws s w e = steps-append (Some start) ws (w ∷ []) ∙ ap (λ r. steps r (w ∷ [])) e
+
+-- What is spoken in a state goes on to a formula no deeper.
+abbrev Ends : State → Type 0
+Ends s = (f : Formula) × ((more : List Word) × ((spoken s ++ more ≡ tokens f) × (depth f ≤ height s)))
+
+ends-from : (s : State) (w : Word) (t : State) → step s w ≡ Some t → state-depth t ≤ state-depth s → Ends t → Ends s
+ends-from s w t e h (f, (more, (q, d))) =
+    let a : Adds s w (Some t) = subst (Adds s w) e (adds s w) in
+    (f, (w ∷ more, (sym (append-assoc (spoken s) (w ∷ []) more) ∙ ap (λ l. l ++ more) (sym (a .0)) ∙ q, omega (arith, depth-height s))))
+
+has-ends : (f : Formula) (o : Open) → Ends (has f o)
+unfolding open-depth
+has-ends f top = (f, ([], (append-nil (tokens f), omega arith)))
+has-ends f (inside k b o) =
+    ends-from (has f (inside k b o)) (close-with k) (has (add b (within k f)) o) (close-same k f b o) (omega arith)
+      (has-ends (add b (within k f)) o)
+
+all-end : (s : State) → Ends s
+all-end (wants b o) =
+    ends-from (wants b o) (connector Right []) (has (add b (named Right [])) o) refl (omega arith) (has-ends (add b (named Right [])) o)
+all-end (has f o) = has-ends f o
+
+reaches : (ws : List Word) (s : State) → Run ws s → (f : Formula) × ((more : List Word) × ((ws ++ more ≡ tokens f) × (depth f ≤ height s)))
+reaches ws s e =
+    subst (λ l. (f : Formula) × ((more : List Word) × ((l ++ more ≡ tokens f) × (depth f ≤ height s)))) (ran start ws s e .0) (all-end s)
+
+possible : (ws : List Word) (s : State) → Run ws s → Possible ws
+possible ws s e = let r = reaches ws s e in (r .0, (r .1 .0, r .1 .1 .0))
+
+allowed : (ws : List Word) (s : State) → Run ws s → height s ≤ 16 → Allowed ws
+allowed ws s e h = let r = reaches ws s e in (r .0, (r .1 .0, (r .1 .1 .0, omega arith)))
+
+reached : (ws more : List Word) (f : Formula) → ws ++ more ≡ tokens f → (s : State) × (Run ws s × (height s ≤ depth f))
+unfolding open-depth
+reached ws more f e = go (steps (Some start) ws) refl
+  where
+    all : steps (steps (Some start) ws) more ≡ Some (has f top)
+    all = sym (steps-append (Some start) ws more) ∙ ap (steps (Some start)) e ∙ run-formula f top
+    go : (o : Option State) → steps (Some start) ws ≡ o → (s : State) × (Run ws s × (height s ≤ depth f))
+    go None q = absurd (some-none (sym (steps-none more) ∙ ap (λ o. steps o more) (sym q) ∙ all))
+    go (Some s) q = (s, (q, omega (arith, ran s more (has f top) (ap (λ o. steps o more) (sym q) ∙ all) .1)))
+
+run-of : (ws : List Word) → Possible ws → (s : State) × (Run ws s)
+run-of ws (f, (more, e)) = let r = reached ws more f e in (r .0, r .1 .0)
+
+low-run-of : (ws : List Word) → Allowed ws → (s : State) × (Run ws s × (height s ≤ 16))
+low-run-of ws (f, (more, (e, d))) = let r = reached ws more f e in (r .0, (r .1 .0, omega arith))
