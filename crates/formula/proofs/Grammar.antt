@@ -11,7 +11,7 @@ use mathlib.Core.Path.{_≡_, refl, sym, ap, subst, _∙_}
 use Prim.Native.Nat.{ℕ, suc, max, _+_, _≤_, _<_}
 use native.Mathlib.Omega.{arith}
 use lib.Dec.{ltb}
-use Rattle.std.proofs.shelf.Tests.{cond-true, cond-false, lt-ltb, le-ltb, ltb-true, ltb-false}
+use Rattle.std.proofs.shelf.Tests.{cond-true, cond-false, cond-both, lt-ltb, le-ltb, ltb-true, ltb-false}
 use Rattle.std.specs.declared.option.Option.{Option}
 use Rattle.std.specs.declared.option.Option.the-variants.{Some, None}
 use Rattle.std.specs.declared.result.Result.{Result}
@@ -242,3 +242,93 @@ run-of ws (f, (more, e)) = let r = reached ws more f e in (r .0, r .1 .0)
 
 low-run-of : (ws : List Word) → Allowed ws → (s : State) × (Run ws s × (height s ≤ 16))
 low-run-of ws (f, (more, (e, d))) = let r = reached ws more f e in (r .0, (r .1 .0, omega arith))
+
+-- A run ends with a formula just if its tokens are the formula's.
+
+same-tokens : (ws : List Word) (f : Formula) → Run ws (has f top) → ws ≡ tokens f
+same-tokens ws f e = sym (ran start ws (has f top) e .0)
+
+same-state : (ws : List Word) (s : State) (f : Formula) → Run ws s → ws ≡ tokens f → s ≡ has f top
+same-state ws s f e q = let r : Run ws (has f top) = ap (steps (Some start)) q ∙ run-formula f top in cc
+
+abbrev Closed : State → Type 0
+Closed (wants b o) = ⊥
+Closed (has f top) = Unit {0}
+Closed (has f (inside k b o)) = ⊥
+
+-- The answers.
+
+after-more : {c : Cut} {ws : List Word} {d : Cut} (p : ℕ) (w : Word) (e : Cut) → After c ws d → d ≡ token p w e → After c (ws ++ (w ∷ [])) e
+after-more p w e (here c) q = subst (λ x. After x (w ∷ []) e) (sym q) (later p w e [] e (here e))
+after-more p w e (later p′ w′ c ws d a) q = later p′ w′ c (ws ++ (w ∷ [])) e (after-more p w e a q)
+
+module _ (whole : Cut) where
+  answer : (c : Cut) (s : State) (ws : List Word) → After whole ws c → Run ws s → height s ≤ 16 → Answer whole (read s c)
+  unfolding read open-depth
+  answer (ends p) (wants b o) ws a e h =
+      unfinished ws p a (allowed ws (wants b o) e h) (λ f q. subst Closed (sym (same-state ws (wants b o) f e q)) tt)
+  answer (ends p) (has f top) ws a e h =
+      accepted f p (subst (λ l. After whole l (ends p)) (same-tokens ws f e) a) (omega arith)
+  answer (ends p) (has f (inside k b o)) ws a e h =
+      unfinished ws p a (allowed ws (has f (inside k b o)) e h) (λ g q. subst Closed (sym (same-state ws (has f (inside k b o)) g e q)) tt)
+  answer (fails p r) s ws a e h = no-token ws p r a (allowed ws s e h)
+  answer (token p w c) s ws a e h = go (step s w) (adds s w) (onward ws s w e) (λ t. answer c t (ws ++ (w ∷ [])) (after-more p w c a refl))
+    where
+      go : (o : Option State) → Adds s w o → steps (Some start) (ws ++ (w ∷ [])) ≡ o → ((t : State) → Run (ws ++ (w ∷ [])) t → height t ≤ 16 → Answer whole (read t c)) → Answer whole (judged p o (λ t. read t c))
+      go None g q ih = misplaced ws p w c a (allowed ws s e h) (λ m. some-none (sym q ∙ run-of (ws ++ (w ∷ [])) m .1))
+      go (Some t) g q ih =
+          cond-both (ltb 16 (state-depth t)) _ _ (Answer whole)
+            (λ y. too-deep ws p w c a (allowed ws s e h) (possible (ws ++ (w ∷ [])) t q) (high y))
+            (λ n. ih t q (omega (arith, ltb-false 16 (state-depth t) n)))
+        where
+          high : ltb 16 (state-depth t) ≡ true → Allowed (ws ++ (w ∷ [])) → ⊥
+          high y m =
+              let r = low-run-of (ws ++ (w ∷ [])) m in
+              let u : t ≡ r .0 = cc in
+              omega (arith, ltb-true 16 (state-depth t) y, ap height u)
+
+-- A reading goes along a run that stays low.
+follow : {c : Cut} {ws : List Word} {d : Cut} → After c ws d → (s t : State) → steps (Some s) ws ≡ Some t → height t ≤ 16 → read s c ≡ read t d
+unfolding read
+follow (here c) s t e h = let u : s ≡ t = cc in ap (λ u. read u c) u
+follow (later p w c ws d a) s t e h = go (step s w) e (λ u q. follow a u t q h)
+  where
+    go : (o : Option State) → steps o ws ≡ Some t → ((u : State) → steps (Some u) ws ≡ Some t → read u c ≡ read t d) → judged p o (λ u. read u c) ≡ read t d
+    go None q ih = absurd (some-none (sym (steps-none ws) ∙ q))
+    go (Some u) q ih =
+        cond-false (ltb 16 (state-depth u)) _ _ (le-ltb 16 (state-depth u) (omega (arith, depth-height u, ran u ws t q .1))) ∙ ih u q
+
+judged-none : (p : ℕ) (o : Option State) (rest : State → Result Formula FormulaFault) → ((t : State) → o ≡ Some t → ⊥) → judged p o rest ≡ Err (fault p OutOfPlace)
+judged-none p None rest h = refl
+judged-none p (Some t) rest h = absurd (h t refl)
+
+judged-deep : (p : ℕ) (o : Option State) (rest : State → Result Formula FormulaFault) (t : State) → o ≡ Some t → (state-depth t ≤ 16 → ⊥) → judged p o rest ≡ Err (fault p TooDeep)
+judged-deep p o rest t e h = ap (λ r. judged p r rest) e ∙ cond-true (ltb 16 (state-depth t)) _ _ (lt-ltb 16 (state-depth t) (omega arith))
+
+finished-none : (p : ℕ) (s : State) → ((f : Formula) → s ≡ has f top → ⊥) → finished s p ≡ Err (fault p OutOfPlace)
+finished-none p (wants b o) h = refl
+finished-none p (has f top) h = absurd (h f refl)
+finished-none p (has f (inside k b o)) h = refl
+
+only : (c : Cut) (r : Result Formula FormulaFault) → Answer c r → r ≡ read start c
+unfolding read open-depth
+only c r (accepted f p a h) = sym (follow a start (has f top) (run-formula f top) (omega arith))
+only c r (misplaced ws p w d a m stuck) =
+    let (s, (e, h)) = low-run-of ws m in
+    sym (follow a start s e h ∙ judged-none p (step s w) (λ t. read t d) (λ t q. stuck (possible (ws ++ (w ∷ [])) t (onward ws s w e ∙ q))))
+only c r (unfinished ws p a m stuck) =
+    let (s, (e, h)) = low-run-of ws m in
+    sym (follow a start s e h ∙ finished-none p s (λ f q. stuck f (same-tokens ws f (e ∙ ap Some q))))
+only c r (too-deep ws p w d a m can deep) =
+    let (s, (e, h)) = low-run-of ws m in
+    let (t, q) = run-of (ws ++ (w ∷ [])) can in
+    let g : step s w ≡ Some t = sym (onward ws s w e) ∙ q in
+    let k : Adds s w (Some t) = subst (Adds s w) g (adds s w) in
+    sym (follow a start s e h ∙ judged-deep p (step s w) (λ t. read t d) t g (λ l. deep (allowed (ws ++ (w ∷ [])) t q (omega arith))))
+only c r (no-token ws p x a m) =
+    let (s, (e, h)) = low-run-of ws m in
+    sym (follow a start s e h)
+
+pub right-answer : (bytes : List ℕ) → Right-answer bytes
+unfolding open-depth
+right-answer bytes = (answer (cut bytes) (cut bytes) start [] (here (cut bytes)) refl (omega arith), only (cut bytes))
