@@ -1,23 +1,23 @@
 -- The reading of a formula is the one answer that its tokens have.
 --
 -- A state of the reader keeps all that was said: from it `spoken` has the tokens again, and `height` how deep their
--- brackets nest, the open ones included. A step adds its token to what is spoken, and its state's depth to the height. So a
--- run over the tokens of a formula ends with that formula, and one that ends with a formula went over its tokens. From any
--- state a formula can be ended with no more brackets opened. Hence tokens can be continued to a formula just if there is a
--- run over them, and to one of an allowed depth just if the height stays so: which is what the reader asks.
-use mathlib.Core.Bool.{Bool, true, false, cond}
+-- brackets nest, the open ones included. A step adds its token to what is spoken, and raises the height just to the
+-- depth that the reader asks about. So a run over the tokens of a formula ends with that formula, and a run that ends with a
+-- formula went over its tokens. From any state a formula can be ended with no more brackets opened. Hence tokens can be
+-- continued to a formula just if there is a run over them, and to one of an allowed depth just if its height is allowed
+-- too. Both are what the reader asks at each token.
+use mathlib.Core.Bool.{true}
 use mathlib.Core.List.{List, [], _∷_, _++_, append-nil, append-assoc}
 use mathlib.Core.Path.{_≡_, refl, sym, ap, subst, _∙_}
-use Prim.Native.Nat.{ℕ, suc, max, _+_, _≤_, _<_}
+use Prim.Native.Nat.{ℕ, max, _+_, _≤_}
 use native.Mathlib.Omega.{arith}
 use lib.Dec.{ltb}
 use Rattle.std.proofs.shelf.Tests.{cond-true, cond-false, cond-both, lt-ltb, le-ltb, ltb-true, ltb-false}
 use Rattle.std.specs.declared.option.Option.{Option}
 use Rattle.std.specs.declared.option.Option.the-variants.{Some, None}
 use Rattle.std.specs.declared.result.Result.{Result}
-use Rattle.std.specs.declared.result.Result.the-variants.{Ok, Err}
-use Rattle.lexicon.specs.declared.side.Side.the-variants.{Left, Right}
-use Rattle.refusal.specs.declared.Refusal.{Refusal}
+use Rattle.std.specs.declared.result.Result.the-variants.{Err}
+use Rattle.lexicon.specs.declared.side.Side.the-variants.{Right}
 use Rattle.refusal.specs.declared.Refusal.the-variants.{OutOfPlace, TooDeep}
 use Rattle.formula.specs.declared.fault.FormulaFault.{FormulaFault}
 use Rattle.formula.specs.declared.token.Join.{Join}
@@ -25,9 +25,13 @@ use Rattle.formula.specs.declared.token.Join.the-variants.{And, Or}
 use Rattle.formula.specs.declared.token.Bracket.{Bracket}
 use Rattle.formula.specs.declared.token.Bracket.the-variants.{Round, Brace}
 use Rattle.formula.specs.Tokens.{Word, mark, open-with, close-with, connector}
-use Rattle.formula.specs.Formulas.{Formula, one, row, Item, named, empty, within, Items, first, then, tokens, item-tokens, row-tokens, depth, item-depth, row-depth}
+use Rattle.formula.specs.Formulas.{Formula, one, row, Item, named, empty, within, Items, first, then}
+use Rattle.formula.specs.Formulas.{tokens, item-tokens, row-tokens, depth, item-depth, row-depth}
 use Rattle.formula.specs.Cuts.{Cut, ends, fails, token, cut}
-use Rattle.formula.specs.Reading.{Before, nothing, after, Open, top, inside, State, wants, has, add, close-empty, close, go-on, step, open-depth, state-depth, fault, finished, judged, read, start, After, here, later, Possible, Allowed, Answer, accepted, misplaced, unfinished, too-deep, no-token, Right-answer}
+use Rattle.formula.specs.Reading.{Before, nothing, after, Open, top, inside, State, wants, has, add, close, go-on, step}
+use Rattle.formula.specs.Reading.{open-depth, state-depth, fault, finished, judged, read, start, After, here, later}
+use Rattle.formula.specs.Reading.{Possible, Allowed, Answer, accepted, misplaced, unfinished, too-deep, no-token}
+use Rattle.formula.specs.Reading.{Right-answer}
 
 -- What was said.
 
@@ -76,17 +80,21 @@ abbrev Adds : State → Word → Option State → Type 0
 Adds s w None = Unit {0}
 Adds s w (Some t) = (spoken t ≡ spoken s ++ (w ∷ [])) × (height t ≡ max (height s) (state-depth t))
 
-adds-item : (b : Before) (o : Open) (i : Item) → (spoken (has (add b i) o) ≡ spoken (wants b o) ++ item-tokens i) × (height (has (add b i) o) ≡ max (height (wants b o)) (open-depth o + item-depth i))
+adds-item : (b : Before) (o : Open) (i : Item) →
+    (spoken (has (add b i) o) ≡ spoken (wants b o) ++ item-tokens i) ×
+    (height (has (add b i) o) ≡ max (height (wants b o)) (open-depth o + item-depth i))
 adds-item b o i =
     (rw add-tokens (sym (append-assoc (spoken-open o) (spoken-before b) (item-tokens i))), omega (arith, add-depth b i))
 
-adds-close : (k : Bracket) (f : Formula) (b : Before) (o : Open) → Adds (has f (inside k b o)) (close-with k) (Some (has (add b (within k f)) o))
+adds-close : (k : Bracket) (f : Formula) (b : Before) (o : Open) →
+    Adds (has f (inside k b o)) (close-with k) (Some (has (add b (within k f)) o))
 unfolding item-tokens item-depth open-depth
 adds-close k f b o =
     let h = adds-item b o (within k f) in
     (h .0 ∙ simp append-assoc, omega arith)
 
-adds-mark : (j : Join) (is : Items) (i : Item) (o : Open) → Adds (has (row j is i) o) (mark j) (Some (wants (after j (then is i)) o))
+adds-mark : (j : Join) (is : Items) (i : Item) (o : Open) →
+    Adds (has (row j is i) o) (mark j) (Some (wants (after j (then is i)) o))
 unfolding tokens row-tokens depth row-depth
 adds-mark j is i o = (simp append-assoc, omega arith)
 
@@ -124,27 +132,30 @@ steps o [] = o
 steps None (w ∷ ws) = None
 steps (Some s) (w ∷ ws) = steps (step s w) ws
 
-steps-none : (ws : List Word) → steps None ws ≡ None
-steps-none [] = refl
-steps-none (w ∷ ws) = refl
+abbrev Runs : State → List Word → State → Type 0
+Runs s ws t = steps (Some s) ws ≡ Some t
 
 steps-append : (o : Option State) (ws more : List Word) → steps o (ws ++ more) ≡ steps (steps o ws) more
 steps-append o [] more = refl
-steps-append None (w ∷ ws) more = sym (steps-none more)
+steps-append None (w ∷ ws) [] = refl
+steps-append None (w ∷ ws) (v ∷ more) = refl
 steps-append (Some s) (w ∷ ws) more = steps-append (step s w) ws more
 
-some-none : {A : Type 0} {s : A} → None ≡ Some s → ⊥
-some-none e = let z : _≡_ {A = ℕ} 0 1 = cc in omega arith
+never : {X : Type 0} (ws : List Word) {t : State} → steps None ws ≡ Some t → X
+never [] e = let z : _≡_ {A = ℕ} 0 1 = cc in absurd (omega arith)
+never (w ∷ ws) e = let z : _≡_ {A = ℕ} 0 1 = cc in absurd (omega arith)
 
 -- What a run adds.
-ran : (s : State) (ws : List Word) (t : State) → steps (Some s) ws ≡ Some t → (spoken t ≡ spoken s ++ ws) × (height s ≤ height t)
-ran s [] t e =
-    let q : s ≡ t = cc in
-    (sym (append-nil (spoken s) ∙ ap spoken q), omega (arith, ap height q))
+abbrev Ran : State → List Word → State → Type 0
+Ran s ws t = (spoken t ≡ spoken s ++ ws) × (height s ≤ height t)
+
+ran : (s : State) (ws : List Word) (t : State) → Runs s ws t → Ran s ws t
+ran s [] t e = let q : s ≡ t = cc in (sym (append-nil (spoken s) ∙ ap spoken q), omega (arith, ap height q))
 ran s (w ∷ ws) t e = go (step s w) (adds s w) e (λ u. ran u ws t)
   where
-    go : (o : Option State) → Adds s w o → steps o ws ≡ Some t → ((u : State) → steps (Some u) ws ≡ Some t → (spoken t ≡ spoken u ++ ws) × (height u ≤ height t)) → (spoken t ≡ spoken s ++ (w ∷ ws)) × (height s ≤ height t)
-    go None a q ih = absurd (some-none (sym (steps-none ws) ∙ q))
+    go : (o : Option State) → Adds s w o → steps o ws ≡ Some t → ((u : State) → Runs u ws t → Ran u ws t) →
+        Ran s (w ∷ ws) t
+    go None a q ih = never ws q
     go (Some u) a q ih =
         let h = ih u q in
         (h .0 ∙ ap (λ l. l ++ ws) (a .0) ∙ append-assoc (spoken s) (w ∷ []) ws, omega arith)
@@ -156,7 +167,8 @@ abbrev made : Join → Items → Formula
 made j (first i) = one i
 made j (then is i) = row j is i
 
-close-same : (k : Bracket) (f : Formula) (b : Before) (o : Open) → close f (inside k b o) k ≡ Some (has (add b (within k f)) o)
+close-same : (k : Bracket) (f : Formula) (b : Before) (o : Open) →
+    close f (inside k b o) k ≡ Some (has (add b (within k f)) o)
 close-same Round f b o = refl
 close-same Brace f b o = refl
 
@@ -165,170 +177,196 @@ go-on-same j (first i) o = refl
 go-on-same And (then is i) o = refl
 go-on-same Or (then is i) o = refl
 
-run-row : (j : Join) (is : Items) (i : Item) (o : Open) → steps (Some (wants nothing o)) (row-tokens j is) ≡ Some (has (made j is) o) → steps (Some (wants (after j is) o)) (item-tokens i) ≡ Some (has (row j is i) o) → steps (Some (wants nothing o)) (row-tokens j is ++ (mark j ∷ item-tokens i)) ≡ Some (has (row j is i) o)
+run-row : (j : Join) (is : Items) (i : Item) (o : Open) → Runs (wants nothing o) (row-tokens j is) (has (made j is) o) →
+    Runs (wants (after j is) o) (item-tokens i) (has (row j is i) o) →
+    Runs (wants nothing o) (row-tokens j is ++ (mark j ∷ item-tokens i)) (has (row j is i) o)
 run-row j is i o p q =
     steps-append (Some (wants nothing o)) (row-tokens j is) (mark j ∷ item-tokens i)
-      ∙ ap (λ r. steps r (mark j ∷ item-tokens i)) p ∙ ap (λ r. steps r (item-tokens i)) (go-on-same j is o) ∙ q
+    ∙ ap (λ r. steps r (mark j ∷ item-tokens i)) p ∙ ap (λ r. steps r (item-tokens i)) (go-on-same j is o) ∙ q
 
 mutual
   unfolding tokens item-tokens row-tokens
 
-  run-formula : (f : Formula) (o : Open) → steps (Some (wants nothing o)) (tokens f) ≡ Some (has f o)
+  run-formula : (f : Formula) (o : Open) → Runs (wants nothing o) (tokens f) (has f o)
   run-formula (one i) o = run-item i nothing o
   run-formula (row j is i) o = run-row j is i o (run-items is j o) (run-item i (after j is) o)
 
-  run-item : (i : Item) (b : Before) (o : Open) → steps (Some (wants b o)) (item-tokens i) ≡ Some (has (add b i) o)
+  run-item : (i : Item) (b : Before) (o : Open) → Runs (wants b o) (item-tokens i) (has (add b i) o)
   run-item (named s n) b o = refl
   run-item empty b o = refl
   run-item (within k f) b o =
       steps-append (Some (wants nothing (inside k b o))) (tokens f) (close-with k ∷ [])
-        ∙ ap (λ r. steps r (close-with k ∷ [])) (run-formula f (inside k b o)) ∙ close-same k f b o
+      ∙ ap (λ r. steps r (close-with k ∷ [])) (run-formula f (inside k b o)) ∙ close-same k f b o
 
-  run-items : (is : Items) (j : Join) (o : Open) → steps (Some (wants nothing o)) (row-tokens j is) ≡ Some (has (made j is) o)
+  run-items : (is : Items) (j : Join) (o : Open) → Runs (wants nothing o) (row-tokens j is) (has (made j is) o)
   run-items (first i) j o = run-item i nothing o
   run-items (then is i) j o = run-row j is i o (run-items is j o) (run-item i (after j is) o)
 
--- Tokens that can be continued, and runs.
+-- Tokens that can be continued to a formula of at most some depth: `Allowed ws` is `Within ws 16`.
+abbrev Within : List Word → ℕ → Type 0
+Within ws h = (f : Formula) × ((more : List Word) × ((ws ++ more ≡ tokens f) × (depth f ≤ h)))
 
-abbrev Run : List Word → State → Type 0
-Run ws s = steps (Some start) ws ≡ Some s
-
-onward : (ws : List Word) (s : State) (w : Word) → Run ws s → steps (Some start) (ws ++ (w ∷ [])) ≡ step s w
-onward ws s w e = steps-append (Some start) ws (w ∷ []) ∙ ap (λ r. steps r (w ∷ [])) e
-
--- What is spoken in a state goes on to a formula no deeper.
+-- What is spoken in a state can be, to its height.
 abbrev Ends : State → Type 0
-Ends s = (f : Formula) × ((more : List Word) × ((spoken s ++ more ≡ tokens f) × (depth f ≤ height s)))
+Ends s = Within (spoken s) (height s)
 
 ends-from : (s : State) (w : Word) (t : State) → step s w ≡ Some t → state-depth t ≤ state-depth s → Ends t → Ends s
 ends-from s w t e h (f, (more, (q, d))) =
     let a : Adds s w (Some t) = subst (Adds s w) e (adds s w) in
-    (f, (w ∷ more, (sym (append-assoc (spoken s) (w ∷ []) more) ∙ ap (λ l. l ++ more) (sym (a .0)) ∙ q, omega (arith, depth-height s))))
+    let r : spoken s ++ (w ∷ more) ≡ tokens f =
+    sym (append-assoc (spoken s) (w ∷ []) more) ∙ ap (λ l. l ++ more) (sym (a .0)) ∙ q in
+    (f, (w ∷ more, (r, omega (arith, depth-height s))))
 
 has-ends : (f : Formula) (o : Open) → Ends (has f o)
 unfolding open-depth
 has-ends f top = (f, ([], (append-nil (tokens f), omega arith)))
 has-ends f (inside k b o) =
     ends-from (has f (inside k b o)) (close-with k) (has (add b (within k f)) o) (close-same k f b o) (omega arith)
-      (has-ends (add b (within k f)) o)
+    (has-ends (add b (within k f)) o)
 
 all-end : (s : State) → Ends s
 all-end (wants b o) =
-    ends-from (wants b o) (connector Right []) (has (add b (named Right [])) o) refl (omega arith) (has-ends (add b (named Right [])) o)
+    let f : Formula = add b (named Right []) in
+    ends-from (wants b o) (connector Right []) (has f o) refl (omega arith) (has-ends f o)
 all-end (has f o) = has-ends f o
 
-reaches : (ws : List Word) (s : State) → Run ws s → (f : Formula) × ((more : List Word) × ((ws ++ more ≡ tokens f) × (depth f ≤ height s)))
-reaches ws s e =
-    subst (λ l. (f : Formula) × ((more : List Word) × ((l ++ more ≡ tokens f) × (depth f ≤ height s)))) (ran start ws s e .0) (all-end s)
+-- From a run to a formula, and back.
 
-possible : (ws : List Word) (s : State) → Run ws s → Possible ws
-possible ws s e = let r = reaches ws s e in (r .0, (r .1 .0, r .1 .1 .0))
+within-run : (ws : List Word) (s : State) → Runs start ws s → Within ws (height s)
+within-run ws s e = subst (λ l. Within l (height s)) (ran start ws s e .0) (all-end s)
 
-allowed : (ws : List Word) (s : State) → Run ws s → height s ≤ 16 → Allowed ws
-allowed ws s e h = let r = reaches ws s e in (r .0, (r .1 .0, (r .1 .1 .0, omega arith)))
+possible : (ws : List Word) (s : State) → Runs start ws s → Possible ws
+possible ws s e = let (f, (more, (q, d))) = within-run ws s e in (f, (more, q))
 
-reached : (ws more : List Word) (f : Formula) → ws ++ more ≡ tokens f → (s : State) × (Run ws s × (height s ≤ depth f))
+allowed : (ws : List Word) (s : State) → Runs start ws s → height s ≤ 16 → Allowed ws
+allowed ws s e h = let (f, (more, (q, d))) = within-run ws s e in (f, (more, (q, omega arith)))
+
+run-of : (ws : List Word) (h : ℕ) → Within ws h → (s : State) × (Runs start ws s × (height s ≤ h))
 unfolding open-depth
-reached ws more f e = go (steps (Some start) ws) refl
+run-of ws h (f, (more, (e, d))) = go (steps (Some start) ws) refl
   where
-    all : steps (steps (Some start) ws) more ≡ Some (has f top)
-    all = sym (steps-append (Some start) ws more) ∙ ap (steps (Some start)) e ∙ run-formula f top
-    go : (o : Option State) → steps (Some start) ws ≡ o → (s : State) × (Run ws s × (height s ≤ depth f))
-    go None q = absurd (some-none (sym (steps-none more) ∙ ap (λ o. steps o more) (sym q) ∙ all))
-    go (Some s) q = (s, (q, omega (arith, ran s more (has f top) (ap (λ o. steps o more) (sym q) ∙ all) .1)))
+    all : (o : Option State) → steps (Some start) ws ≡ o → steps o more ≡ Some (has f top)
+    all o q =
+        ap (λ r. steps r more) (sym q) ∙ sym (steps-append (Some start) ws more) ∙ ap (steps (Some start)) e
+        ∙ run-formula f top
 
-run-of : (ws : List Word) → Possible ws → (s : State) × (Run ws s)
-run-of ws (f, (more, e)) = let r = reached ws more f e in (r .0, r .1 .0)
+    go : (o : Option State) → steps (Some start) ws ≡ o → (s : State) × (Runs start ws s × (height s ≤ h))
+    go None q = never more (all None q)
+    go (Some s) q = (s, (q, omega (arith, ran s more (has f top) (all (Some s) q) .1)))
 
-low-run-of : (ws : List Word) → Allowed ws → (s : State) × (Run ws s × (height s ≤ 16))
-low-run-of ws (f, (more, (e, d))) = let r = reached ws more f e in (r .0, (r .1 .0, omega arith))
+any-run-of : (ws : List Word) → Possible ws → (s : State) × Runs start ws s
+any-run-of ws (f, (more, e)) = let (s, (q, h)) = run-of ws (depth f) (f, (more, (e, omega arith))) in (s, q)
 
--- A run ends with a formula just if its tokens are the formula's.
+-- Where a formula is had.
 
-same-tokens : (ws : List Word) (f : Formula) → Run ws (has f top) → ws ≡ tokens f
+same-tokens : (ws : List Word) (f : Formula) → Runs start ws (has f top) → ws ≡ tokens f
 same-tokens ws f e = sym (ran start ws (has f top) e .0)
 
-same-state : (ws : List Word) (s : State) (f : Formula) → Run ws s → ws ≡ tokens f → s ≡ has f top
-same-state ws s f e q = let r : Run ws (has f top) = ap (steps (Some start)) q ∙ run-formula f top in cc
+same-state : (ws : List Word) (s : State) (f : Formula) → Runs start ws s → ws ≡ tokens f → s ≡ has f top
+same-state ws s f e q = let r : Runs start ws (has f top) = ap (steps (Some start)) q ∙ run-formula f top in cc
 
-abbrev Closed : State → Type 0
-Closed (wants b o) = ⊥
-Closed (has f top) = Unit {0}
-Closed (has f (inside k b o)) = ⊥
+abbrev Had : State → Type 0
+Had (wants b o) = ⊥
+Had (has f top) = Unit {0}
+Had (has f (inside k b o)) = ⊥
 
--- The answers.
+-- The reading is an answer.
 
-after-more : {c : Cut} {ws : List Word} {d : Cut} (p : ℕ) (w : Word) (e : Cut) → After c ws d → d ≡ token p w e → After c (ws ++ (w ∷ [])) e
+after-more : {c d : Cut} {ws : List Word} (p : ℕ) (w : Word) (e : Cut) → After c ws d → d ≡ token p w e →
+    After c (ws ++ (w ∷ [])) e
 after-more p w e (here c) q = subst (λ x. After x (w ∷ []) e) (sym q) (later p w e [] e (here e))
 after-more p w e (later p′ w′ c ws d a) q = later p′ w′ c (ws ++ (w ∷ [])) e (after-more p w e a q)
 
+onward : (ws : List Word) (s : State) (w : Word) → Runs start ws s → steps (Some start) (ws ++ (w ∷ [])) ≡ step s w
+onward ws s w e = steps-append (Some start) ws (w ∷ []) ∙ ap (λ r. steps r (w ∷ [])) e
+
 module _ (whole : Cut) where
-  answer : (c : Cut) (s : State) (ws : List Word) → After whole ws c → Run ws s → height s ≤ 16 → Answer whole (read s c)
+  -- What is read from a part of the cut on is an answer, if a low run over the tokens before it leads there.
+  abbrev Good : Cut → State → Type 0
+  Good c s = (ws : List Word) → After whole ws c → Runs start ws s → height s ≤ 16 → Answer whole (read s c)
+
+  open-end : (p : ℕ) (s : State) → (Had s → ⊥) → finished s p ≡ Err (fault p OutOfPlace) → Good (ends p) s
+  unfolding read
+  open-end p s n e ws a r h =
+      rw e (unfinished ws p a (allowed ws s r h) (λ f q. n (subst Had (sym (same-state ws s f r q)) tt)))
+
+  answer : (c : Cut) (s : State) → Good c s
   unfolding read open-depth
-  answer (ends p) (wants b o) ws a e h =
-      unfinished ws p a (allowed ws (wants b o) e h) (λ f q. subst Closed (sym (same-state ws (wants b o) f e q)) tt)
-  answer (ends p) (has f top) ws a e h =
-      accepted f p (subst (λ l. After whole l (ends p)) (same-tokens ws f e) a) (omega arith)
-  answer (ends p) (has f (inside k b o)) ws a e h =
-      unfinished ws p a (allowed ws (has f (inside k b o)) e h) (λ g q. subst Closed (sym (same-state ws (has f (inside k b o)) g e q)) tt)
-  answer (fails p r) s ws a e h = no-token ws p r a (allowed ws s e h)
-  answer (token p w c) s ws a e h = go (step s w) (adds s w) (onward ws s w e) (λ t. answer c t (ws ++ (w ∷ [])) (after-more p w c a refl))
+  answer (ends p) (wants b o) = open-end p (wants b o) (λ x. x) refl
+  answer (ends p) (has f top) =
+      λ ws a e h. accepted f p (subst (λ l. After whole l (ends p)) (same-tokens ws f e) a) (omega arith)
+  answer (ends p) (has f (inside k b o)) = open-end p (has f (inside k b o)) (λ x. x) refl
+  answer (fails p r) s = λ ws a e h. no-token ws p r a (allowed ws s e h)
+  answer (token p w c) s =
+      λ ws a e h. go ws a (allowed ws s e h) h (step s w) (adds s w) (onward ws s w e) (λ t. answer c t)
     where
-      go : (o : Option State) → Adds s w o → steps (Some start) (ws ++ (w ∷ [])) ≡ o → ((t : State) → Run (ws ++ (w ∷ [])) t → height t ≤ 16 → Answer whole (read t c)) → Answer whole (judged p o (λ t. read t c))
-      go None g q ih = misplaced ws p w c a (allowed ws s e h) (λ m. some-none (sym q ∙ run-of (ws ++ (w ∷ [])) m .1))
-      go (Some t) g q ih =
+      go : (ws : List Word) → After whole ws (token p w c) → Allowed ws → height s ≤ 16 →
+          (o : Option State) → Adds s w o →
+          steps (Some start) (ws ++ (w ∷ [])) ≡ o → ((t : State) → Good c t) → Answer whole (judged p o (λ t. read t c))
+      go ws a m h None g q ih =
+          misplaced ws p w c a m λ k. never [] (sym q ∙ any-run-of (ws ++ (w ∷ [])) k .1)
+      go ws a m h (Some t) g q ih =
           cond-both (ltb 16 (state-depth t)) _ _ (Answer whole)
-            (λ y. too-deep ws p w c a (allowed ws s e h) (possible (ws ++ (w ∷ [])) t q) (high y))
-            (λ n. ih t q (omega (arith, ltb-false 16 (state-depth t) n)))
+          (λ y. too-deep ws p w c a m (possible (ws ++ (w ∷ [])) t q) (λ k. high y (run-of (ws ++ (w ∷ [])) 16 k)))
+          (λ n. ih t (ws ++ (w ∷ [])) (after-more p w c a refl) q (omega (arith, ltb-false 16 (state-depth t) n)))
         where
-          high : ltb 16 (state-depth t) ≡ true → Allowed (ws ++ (w ∷ [])) → ⊥
-          high y m =
-              let r = low-run-of (ws ++ (w ∷ [])) m in
-              let u : t ≡ r .0 = cc in
-              omega (arith, ltb-true 16 (state-depth t) y, ap height u)
+          high : ltb 16 (state-depth t) ≡ true → (u : State) × (Runs start (ws ++ (w ∷ [])) u × (height u ≤ 16)) → ⊥
+          high y (u, (r, l)) =
+              let v : t ≡ u = cc in
+              omega (arith, ltb-true 16 (state-depth t) y, ap height v)
+
+pub answers : (c : Cut) → Answer c (read start c)
+unfolding open-depth
+answers c = answer c c start [] (here c) refl (omega arith)
+
+-- And the only one.
 
 -- A reading goes along a run that stays low.
-follow : {c : Cut} {ws : List Word} {d : Cut} → After c ws d → (s t : State) → steps (Some s) ws ≡ Some t → height t ≤ 16 → read s c ≡ read t d
+follow : {c d : Cut} {ws : List Word} → After c ws d → (s t : State) → Runs s ws t → height t ≤ 16 → read s c ≡ read t d
 unfolding read
-follow (here c) s t e h = let u : s ≡ t = cc in ap (λ u. read u c) u
+follow (here c) s t e h = let q : s ≡ t = cc in ap (λ u. read u c) q
 follow (later p w c ws d a) s t e h = go (step s w) e (λ u q. follow a u t q h)
   where
-    go : (o : Option State) → steps o ws ≡ Some t → ((u : State) → steps (Some u) ws ≡ Some t → read u c ≡ read t d) → judged p o (λ u. read u c) ≡ read t d
-    go None q ih = absurd (some-none (sym (steps-none ws) ∙ q))
+    go : (o : Option State) → steps o ws ≡ Some t → ((u : State) → Runs u ws t → read u c ≡ read t d) →
+        judged p o (λ u. read u c) ≡ read t d
+    go None q ih = never ws q
     go (Some u) q ih =
-        cond-false (ltb 16 (state-depth u)) _ _ (le-ltb 16 (state-depth u) (omega (arith, depth-height u, ran u ws t q .1))) ∙ ih u q
+        let l : state-depth u ≤ 16 = omega (arith, depth-height u, ran u ws t q .1) in
+        cond-false (ltb 16 (state-depth u)) _ _ (le-ltb 16 (state-depth u) l) ∙ ih u q
 
-judged-none : (p : ℕ) (o : Option State) (rest : State → Result Formula FormulaFault) → ((t : State) → o ≡ Some t → ⊥) → judged p o rest ≡ Err (fault p OutOfPlace)
+judged-none : (p : ℕ) (o : Option State) (rest : State → Result Formula FormulaFault) → ((t : State) → o ≡ Some t → ⊥) →
+    judged p o rest ≡ Err (fault p OutOfPlace)
 judged-none p None rest h = refl
 judged-none p (Some t) rest h = absurd (h t refl)
 
-judged-deep : (p : ℕ) (o : Option State) (rest : State → Result Formula FormulaFault) (t : State) → o ≡ Some t → (state-depth t ≤ 16 → ⊥) → judged p o rest ≡ Err (fault p TooDeep)
-judged-deep p o rest t e h = ap (λ r. judged p r rest) e ∙ cond-true (ltb 16 (state-depth t)) _ _ (lt-ltb 16 (state-depth t) (omega arith))
+judged-deep : (p : ℕ) (o : Option State) (rest : State → Result Formula FormulaFault) (t : State) → o ≡ Some t →
+    (state-depth t ≤ 16 → ⊥) → judged p o rest ≡ Err (fault p TooDeep)
+judged-deep p o rest t e h =
+    ap (λ r. judged p r rest) e ∙ cond-true (ltb 16 (state-depth t)) _ _ (lt-ltb 16 (state-depth t) (omega arith))
 
 finished-none : (p : ℕ) (s : State) → ((f : Formula) → s ≡ has f top → ⊥) → finished s p ≡ Err (fault p OutOfPlace)
 finished-none p (wants b o) h = refl
 finished-none p (has f top) h = absurd (h f refl)
 finished-none p (has f (inside k b o)) h = refl
 
-only : (c : Cut) (r : Result Formula FormulaFault) → Answer c r → r ≡ read start c
+pub only : (c : Cut) (r : Result Formula FormulaFault) → Answer c r → r ≡ read start c
 unfolding read open-depth
 only c r (accepted f p a h) = sym (follow a start (has f top) (run-formula f top) (omega arith))
 only c r (misplaced ws p w d a m stuck) =
-    let (s, (e, h)) = low-run-of ws m in
-    sym (follow a start s e h ∙ judged-none p (step s w) (λ t. read t d) (λ t q. stuck (possible (ws ++ (w ∷ [])) t (onward ws s w e ∙ q))))
-only c r (unfinished ws p a m stuck) =
-    let (s, (e, h)) = low-run-of ws m in
-    sym (follow a start s e h ∙ finished-none p s (λ f q. stuck f (same-tokens ws f (e ∙ ap Some q))))
+    let (s, (e, h)) = run-of ws 16 m in
+    sym (follow a start s e h
+    ∙ judged-none p (step s w) (λ t. read t d) (λ t q. stuck (possible (ws ++ (w ∷ [])) t (onward ws s w e ∙ q))))
+only c r (unfinished ws p a m other) =
+    let (s, (e, h)) = run-of ws 16 m in
+    sym (follow a start s e h ∙ finished-none p s (λ f q. other f (same-tokens ws f (e ∙ ap Some q))))
 only c r (too-deep ws p w d a m can deep) =
-    let (s, (e, h)) = low-run-of ws m in
-    let (t, q) = run-of (ws ++ (w ∷ [])) can in
+    let (s, (e, h)) = run-of ws 16 m in
+    let (t, q) = any-run-of (ws ++ (w ∷ [])) can in
     let g : step s w ≡ Some t = sym (onward ws s w e) ∙ q in
     let k : Adds s w (Some t) = subst (Adds s w) g (adds s w) in
-    sym (follow a start s e h ∙ judged-deep p (step s w) (λ t. read t d) t g (λ l. deep (allowed (ws ++ (w ∷ [])) t q (omega arith))))
-only c r (no-token ws p x a m) =
-    let (s, (e, h)) = low-run-of ws m in
-    sym (follow a start s e h)
+    sym (follow a start s e h
+    ∙ judged-deep p (step s w) (λ t. read t d) t g (λ l. deep (allowed (ws ++ (w ∷ [])) t q (omega arith))))
+only c r (no-token ws p x a m) = let (s, (e, h)) = run-of ws 16 m in sym (follow a start s e h)
 
 pub right-answer : (bytes : List ℕ) → Right-answer bytes
-unfolding open-depth
-right-answer bytes = (answer (cut bytes) (cut bytes) start [] (here (cut bytes)) refl (omega arith), only (cut bytes))
+right-answer bytes = (answers (cut bytes), only (cut bytes))
