@@ -20,12 +20,10 @@ use Rattle.refusal.specs.declared.Refusal.the-variants.{BadName, UnknownMark}
 use Rattle.formula.specs.Cuts.{run, cut-after, cut-from, Cut, ends, fails, token, placed, token-at, mark-token, name-token, signed, capital, small, name-length, said-there, Stands}
 use Rattle.std.specs.Vec.{made}
 use Rattle.formula.specs.declared.fault.FormulaFault.{FormulaFault}
-use Rattle.formula.specs.declared.token.Join.the-variants.{And, Or}
-use Rattle.formula.specs.declared.token.Bracket.the-variants.{Round, Brace}
 use Rattle.formula.specs.declared.token.Placed.{Placed}
 use Rattle.formula.specs.Faults.{carried, fault}
-use Rattle.formula.specs.Tokens.{Name, Word, mark, open-with, close-with, connector, sign, spelled, said}
-use Rattle.formula.proofs.Lays.{cut-skip, token-front}
+use Rattle.formula.specs.Tokens.{Name, Word, spelled, said}
+use Rattle.formula.proofs.Lays.{cut-skip, token-front, spelled-some}
 
 -- A run goes on where a byte passes the test, and ends where none does.
 pub run-more : (p : ℕ → Bool) (xs : List ℕ) (i : ℕ) → i < length xs → p (getD xs i 0) ≡ true →
@@ -50,15 +48,6 @@ unfolding cut-after
 cut-end xs i e =
     let h : length xs ≤ i = omega arith
     in ap (λ bs. cut-after 0 i bs) (drop-all i xs h) ∙ ap ends e
-
-spelled-some : (w : Word) → 0 < length (spelled w)
-spelled-some (mark And) = omega arith
-spelled-some (mark Or) = omega arith
-spelled-some (open-with Round) = omega arith
-spelled-some (open-with Brace) = omega arith
-spelled-some (close-with Round) = omega arith
-spelled-some (close-with Brace) = omega arith
-spelled-some (connector s n) = let e = length-append n (sign s ∷ []) in omega arith
 
 -- A token was found at a place, and what is cut there is the token and what is cut behind it.
 abbrev pub Found : List ℕ → ℕ → Placed → Type 0
