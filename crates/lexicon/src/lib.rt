@@ -7,3 +7,5 @@
 pub mod chain;
 pub mod dictionary;
 pub mod side;
+#[cfg(test)]
+mod tests;
