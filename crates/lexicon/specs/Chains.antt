@@ -36,7 +36,7 @@ four a =
 abbrev pub size : List ℕ → ℕ
 size follow = min (length follow) 64
 
--- A right connector is the word that it belongs to, and it matches the words that may follow.
+-- A connector is the word that it belongs to, and on the right it matches the words that may follow.
 abbrev pub chain : List ℕ → Lexicon
 chain follow = record {
   words = size follow;
@@ -48,7 +48,7 @@ chain follow = record {
 example-matches : (chain (2 ∷ 0 ∷ []) .matches 0 1 ≡ true) × (chain (2 ∷ 0 ∷ []) .matches 1 0 ≡ false)
 example-matches = (refl, refl)
 
--- Of the four disjuncts of word 2, the one that begins a chain stands second; a chain of three has no word 3.
+-- By its second disjunct word 2 begins a chain; and there is no word 3 among three.
 example-disjuncts : (list-of (chain (0 ∷ 0 ∷ 0 ∷ [])) 2 1 Right ≡ 2 ∷ []) × (chain (0 ∷ 0 ∷ 0 ∷ []) .disjuncts 3 ≡ [])
 example-disjuncts = (refl, refl)
 
@@ -56,10 +56,10 @@ abbrev pub chain-of : Chain → Lexicon
 chain-of c = chain (now (c .follow))
 
 -- A set has 64 bits, so a chain has at most 64 words; and it has one at least.
-abbrev pub Chain-size : List ℕ → Type 0
-Chain-size follow = (1 ≤ length follow) × (length follow ≤ 64)
+abbrev pub Right-size : List ℕ → Type 0
+Right-size follow = (1 ≤ length follow) × (length follow ≤ 64)
 
--- The answer to who makes a chain of these sets.
+-- The answer to whoever makes a chain: the chain that these sets mean, or the one refusal.
 abbrev pub Chained : List ℕ → Result Chain Refusal → Type 0
-Chained follow (Ok c) = Chain-size follow × (chain-of c ≡ chain follow)
-Chained follow (Err e) = (Chain-size follow → ⊥) × (e ≡ ChainSize)
+Chained follow (Ok c) = Right-size follow × (chain-of c ≡ chain follow)
+Chained follow (Err e) = (Right-size follow → ⊥) × (e ≡ ChainSize)

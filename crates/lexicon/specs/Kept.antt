@@ -1,8 +1,8 @@
--- A chain keeps the limits of a dictionary.
+-- A chain keeps the limits of a dictionary: the proofs that the chain hands over with its answers.
 use mathlib.Core.Bool.{Bool, true, false, cond}
 use mathlib.Core.List.{List, [], _∷_}
 use mathlib.Core.Path.{_≡_, refl, ap}
-use Prim.Native.Nat.{ℕ, zero, suc, min, _≤_, _<_, _^_}
+use Prim.Native.Nat.{ℕ, zero, suc, _≤_, _<_, _^_}
 use native.Mathlib.Omega.{arith}
 use lib.Dec.{ltb, lit<, lit≤}
 use lib.ListN.{length, getD}
@@ -14,7 +14,7 @@ use Rattle.lexicon.specs.Lexicon.{Disjunct, free, side-of}
 use Rattle.lexicon.specs.Limits.{Few-words, None-past, Few-disjuncts, Short-lists, Small-connectors}
 
 pub few-words : (follow : List ℕ) → Few-words (chain follow)
-few-words follow = let n = length follow in omega arith
+few-words follow = omega arith
 
 pub none-past : (follow : List ℕ) → None-past (chain follow)
 none-past follow w h = ap (λ b. cond b (four w) []) (le-ltb w (size follow) h)
@@ -50,6 +50,5 @@ alone a (suc i) h = lit< tt
 
 pub small-connectors : (follow : List ℕ) → Small-connectors (chain follow)
 small-connectors follow w d s i =
-    let n = length follow
-    in let small : ltb w (size follow) ≡ true → w < 2 ^ 16 = λ e. (let h = ltb-true w (size follow) e in omega arith)
+    let small : ltb w (size follow) ≡ true → w < 2 ^ 16 = λ e. (let h = ltb-true w (size follow) e in omega arith)
     in one-or-none (λ l. getD l i 0 < 2 ^ 16) (ltb w (size follow)) w d s (lit< tt) (λ e. alone w i (small e))

@@ -29,6 +29,7 @@ impl<'a> Chain<'a> {
         Ok(Chain { follow })
     }
 
+    /// The number of words.
     fn size(&self) -> usize
         ensures { λ r. ⌜ r ≡ size (now (now (self .entry) .follow)) ⌝ }
     {

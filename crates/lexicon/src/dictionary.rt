@@ -4,10 +4,13 @@ ghost use Rattle.lexicon.specs.Lexicon.{Lexicon, list-of};
 ghost use Rattle.lexicon.specs.Limits.{Few-words, None-past, Few-disjuncts, Short-lists, Small-connectors};
 use crate::side::Side;
 
-/// A dictionary, by the five questions that a parser asks. Each may be asked of any number: past an end the answer is 0.
+/// A dictionary, by the five questions that a parser asks. Each may be asked of any number: past an end a count and a
+/// connector are 0.
 pub trait Dictionary {
+    /// What the dictionary means, which every answer tells a part of.
     ghost meaning: { Self → Lexicon };
 
+    // the limits, which every dictionary shows that it keeps
     ghost few_words: { (d : Self) → Few-words (meaning d) };
 
     ghost none_past: { (d : Self) → None-past (meaning d) };
