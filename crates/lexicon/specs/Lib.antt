@@ -1,1 +1,4 @@
+pub mod Chains
+pub mod Kept
 pub mod Lexicon
+pub mod Limits

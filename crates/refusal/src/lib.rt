@@ -115,3 +115,6 @@ pub impl fmt::Display for Refusal as RefusalDisplay {
         f.write_str(self.message())
     }
 }
+
+#[cfg(test)]
+mod tests;
