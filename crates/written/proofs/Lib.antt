@@ -1,2 +1,5 @@
 pub mod Renamed
 pub mod Fronts
+pub mod Blocks
+pub mod Known
+pub mod Names
