@@ -3,3 +3,5 @@ pub mod Fronts
 pub mod Blocks
 pub mod Known
 pub mod Names
+pub mod Lines
+pub mod Stored
