@@ -3,7 +3,7 @@ use mathlib.Core.Path.{_≡_, refl, sym, ap, ap₂, subst, _∙_}
 use mathlib.Core.List.{List, [], _∷_, _++_, append-assoc}
 use Prim.Native.Nat.{ℕ, zero, suc, _+_, _*_, _≤_, _<_}
 use native.Mathlib.Omega.{arith}
-use lib.ListN.{length, take, drop, getD, length-append}
+use lib.ListN.{length, take, getD, length-append}
 use lib.Seq.{take-append-seam, drop-at, getD-append-add}
 use Rattle.std.specs.shelf.Lists.{All}
 use Rattle.std.proofs.shelf.Lists.{getD-append-left}
@@ -34,7 +34,8 @@ module _ (front : List ℕ) where
       ap (λ f. cells f a (length xs)) (s .is)
       ∙ (ap (take (length xs)) (drop-at (s .before) (xs ++ s .rest) a (s .place)) ∙ take-append-seam xs (s .rest))
 
-  pub stands-cell : (a : ℕ) (xs : List ℕ) → Stands front a xs → (i m : ℕ) → a + i ≡ m → i < length xs → cell front m ≡ getD xs i 0
+  pub stands-cell : (a : ℕ) (xs : List ℕ) → Stands front a xs → (i m : ℕ) → a + i ≡ m → i < length xs →
+      cell front m ≡ getD xs i 0
   stands-cell a xs s i m e h =
       let p = s .place in
       let q : m ≡ length (s .before) + i = omega arith in
@@ -46,7 +47,7 @@ module _ (front : List ℕ) where
         before = s .before;
         rest = ys ++ s .rest;
         is = s .is ∙ ap (_++_ (s .before)) (append-assoc xs ys (s .rest));
-        place = s .place
+        place = s .place;
       }
 
   pub stands-after : (a : ℕ) (xs ys : List ℕ) → Stands front a (xs ++ ys) → (b : ℕ) → a + length xs ≡ b → Stands front b ys
@@ -55,7 +56,7 @@ module _ (front : List ℕ) where
         before = s .before ++ xs;
         rest = s .rest;
         is = s .is ∙ (ap (_++_ (s .before)) (append-assoc xs ys (s .rest)) ∙ sym (append-assoc (s .before) xs (ys ++ s .rest)));
-        place = let p = s .place in length-append (s .before) xs ∙ omega arith
+        place = let p = s .place in length-append (s .before) xs ∙ omega arith;
       }
 
 -- Each side asks for at most eight connectors.
@@ -76,7 +77,8 @@ module _ (front : List ℕ) where
         let (c0, c1, c2) = head-read in
         let l = stands-cells front at (d .left) (stands-front front at (d .left) (d .right ++ ys) c) in
         let after = stands-after front at (d .left) (d .right ++ ys) c (at + length (d .left)) refl in
-        let r = stands-cells front (at + length (d .left)) (d .right) (stands-front front (at + length (d .left)) (d .right) ys after) in
+        let next = stands-front front (at + length (d .left)) (d .right) ys after in
+        let r = stands-cells front (at + length (d .left)) (d .right) next in
         simp (c0, c1, c2, l, r)
 
     disjunct-whole : Fits d → Asks (Whole-name front) d → Whole-disjunct front a
@@ -85,15 +87,18 @@ module _ (front : List ℕ) where
         let both = d .left ++ d .right in
         let n = length-append (d .left) (d .right) in
         let s : Stands front at both =
-            stands-front front at both ys (subst (Stands front at) (sym (append-assoc (d .left) (d .right) ys)) c)
-        in let w = stands-within front at both s in
-        (omega arith, omega arith, omega arith,
-         λ i k.
-           let q : i < length both = omega arith in
-           let e : cell front (cell front (a + 2) + i) ≡ getD both i 0 =
-               ap (λ m. cell front (m + i)) c2 ∙ stands-cell front at both s i (at + i) refl q
-           in subst (Whole-name front) (sym e)
-           (all-getD (Whole-name front) both i 0 q (all-append (Whole-name front) (d .left) (d .right) nl nr)))
+        stands-front front at both ys (subst (Stands front at) (sym (append-assoc (d .left) (d .right) ys)) c)
+        in let w = stands-within front at both s in (
+          omega arith,
+          omega arith,
+          omega arith,
+          λ i k.
+              let q : i < length both = omega arith in
+              let e : cell front (cell front (a + 2) + i) ≡ getD both i 0 =
+              ap (λ m. cell front (m + i)) c2 ∙ stands-cell front at both s i (at + i) refl q
+              in subst (Whole-name front) (sym e)
+              (all-getD (Whole-name front) both i 0 q (all-append (Whole-name front) (d .left) (d .right) nl nr)),
+        )
 
   module _ (b : ℕ) where
     -- The heads of the disjuncts behind a disjunct, and their connectors.
@@ -101,8 +106,8 @@ module _ (front : List ℕ) where
         Stands front (third b (suc k)) (heads (at + (length (d .left) + length (d .right))) ds)
     unfolding heads
     heads-after d ds k at h =
-        stands-after front (third b k) (length (d .left) ∷ length (d .right) ∷ at ∷ []) (heads (at + (length (d .left) + length (d .right))) ds)
-        h (third b (suc k)) (omega arith)
+        stands-after front (third b k) (length (d .left) ∷ length (d .right) ∷ at ∷ [])
+        (heads (at + (length (d .left) + length (d .right))) ds) h (third b (suc k)) (omega arith)
 
     connectors-after : (d : Disjunct ℕ) (ds : List (Disjunct ℕ)) (at : ℕ) → Stands front at (connectors (d ∷ ds)) →
         Stands front (at + (length (d .left) + length (d .right))) (connectors ds)
@@ -160,9 +165,11 @@ module _ (front : List ℕ) (b : ℕ) (ds : List (Disjunct ℕ)) (s : Stands fro
   pub block-whole : length ds ≤ 64 → All Fits ds → All (Asks (Whole-name front)) ds → Whole-block front b
   block-whole few fits named =
       let n = count-read in
-      let w = stands-within front (third b (length ds)) (connectors ds) at-connectors in
-      (omega arith, omega arith,
-       λ k h.
-         heads-whole front b ds 0 (third b (length ds))
-         (stands-front front (third b 0) (heads (third b (length ds)) ds) (connectors ds) at-heads) at-connectors
-         fits named k k (omega arith) (omega arith))
+      let w = stands-within front (third b (length ds)) (connectors ds) at-connectors in (
+        omega arith,
+        omega arith,
+        λ k h.
+            heads-whole front b ds 0 (third b (length ds))
+            (stands-front front (third b 0) (heads (third b (length ds)) ds) (connectors ds) at-heads) at-connectors
+            fits named k k (omega arith) (omega arith),
+      )

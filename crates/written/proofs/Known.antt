@@ -1,6 +1,6 @@
 -- Rows of bytes are the same when they are equal, and names that were not known are told from those that were.
-use mathlib.Core.Bool.{Bool, true, false, cond, _&&_, _||_}
-use mathlib.Core.Path.{_≡_, refl, sym, ap, ap₂, subst, _∙_}
+use mathlib.Core.Bool.{true, false}
+use mathlib.Core.Path.{_≡_, refl, sym, ap₂, subst, _∙_}
 use mathlib.Core.List.{List, [], _∷_, _++_, append-assoc, append-nil}
 use mathlib.Core.Logic.{⊎-elim}
 use Prim.Native.Nat.{ℕ}
@@ -49,10 +49,11 @@ abbrev pub Distinct : List Name → Type 0
 Distinct [] = Unit {0}
 Distinct (n ∷ ns) = (among n ns ≡ false) × Distinct ns
 
--- Another name is not the last of a list to which a name is added that was not in it.
+-- A name that is not in a list is not in it either when another is added.
 among-push : (n m : Name) (xs : List Name) → among n xs ≡ false → (m ≡ n → ⊥) → among n (xs ++ (m ∷ [])) ≡ false
 unfolding among
-among-push n m [] h o = or-from (same n m) false (⊎-elim (λ e. absurd (o (sym (same-eq n m e)))) (λ e. e) (cases-bool (same n m))) refl
+among-push n m [] h o =
+    or-from (same n m) false (⊎-elim (λ e. absurd (o (sym (same-eq n m e)))) (λ e. e) (cases-bool (same n m))) refl
 among-push n m (x ∷ xs) h o =
     let (e, r) = or-parts (same n x) (among n xs) h in
     or-from (same n x) (among n (xs ++ (m ∷ []))) e (among-push n m xs r o)
@@ -71,18 +72,20 @@ fresh-distinct known (m ∷ ms) d =
     cond-both (among m known) (fresh known ms) (m ∷ fresh (known ++ (m ∷ [])) ms) (λ xs. Distinct (known ++ xs))
     (λ _. fresh-distinct known ms d)
     (λ e. subst Distinct (append-assoc known (m ∷ []) (fresh (known ++ (m ∷ [])) ms))
-      (fresh-distinct (known ++ (m ∷ [])) ms (distinct-push known m d e)))
+    (fresh-distinct (known ++ (m ∷ [])) ms (distinct-push known m d e)))
 
 -- Every name mentioned is then known.
 pub fresh-among : (known ms : List Name) → All (λ m. among m (known ++ fresh known ms) ≡ true) ms
 unfolding fresh
 fresh-among known [] = tt
 fresh-among known (m ∷ ms) =
-    cond-both (among m known) (fresh known ms) (m ∷ fresh (known ++ (m ∷ [])) ms) (λ xs. All (λ n. among n (known ++ xs) ≡ true) (m ∷ ms))
+    cond-both (among m known) (fresh known ms) (m ∷ fresh (known ++ (m ∷ [])) ms)
+    (λ xs. All (λ n. among n (known ++ xs) ≡ true) (m ∷ ms))
     (λ e. (among-left m known (fresh known ms) e, fresh-among known ms))
-    (λ e. subst (λ xs. All (λ n. among n xs ≡ true) (m ∷ ms)) (append-assoc known (m ∷ []) (fresh (known ++ (m ∷ [])) ms))
-      (among-left m (known ++ (m ∷ [])) (fresh (known ++ (m ∷ [])) ms) (among-right m known (m ∷ []) (among-one m)),
-       fresh-among (known ++ (m ∷ [])) ms))
+    (λ e. subst (λ xs. All (λ n. among n xs ≡ true) (m ∷ ms)) (append-assoc known (m ∷ []) (fresh (known ++ (m ∷ [])) ms)) (
+      among-left m (known ++ (m ∷ [])) (fresh (known ++ (m ∷ [])) ms) (among-right m known (m ∷ []) (among-one m)),
+      fresh-among (known ++ (m ∷ [])) ms,
+    ))
 
 pub fresh-all : (P : Name → Type 0) (known ms : List Name) → All P ms → All P (fresh known ms)
 unfolding fresh

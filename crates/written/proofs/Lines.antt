@@ -1,9 +1,9 @@
 -- The parts of a line that is written behind a front: none of its cells but those of the names holds a mark, its block reads
 -- as the line's disjuncts, and its rows read as the line's words.
 use mathlib.Core.Bool.{true}
-use mathlib.Core.Path.{_≡_, refl, sym, ap, ap₂, subst, _∙_}
+use mathlib.Core.Path.{_≡_, refl, ap, ap₂, subst, _∙_}
 use mathlib.Core.List.{List, [], _∷_, _++_, map, append-assoc, append-nil}
-use Prim.Native.Nat.{ℕ, zero, suc, _+_, _*_, _≤_, _<_, _^_}
+use Prim.Native.Nat.{ℕ, zero, suc, _+_, _≤_, _<_, _^_}
 use native.Mathlib.Omega.{arith}
 use lib.ListN.{length, getD, length-append, length-map}
 use Rattle.std.specs.shelf.Lists.{All}
@@ -12,14 +12,14 @@ use Rattle.lexicon.specs.declared.side.Side.{Side}
 use Rattle.lexicon.specs.declared.side.Side.the-variants.{Left, Right}
 use Rattle.lexicon.specs.Lexicon.{Disjunct, side-of, free}
 use Rattle.formula.specs.Tokens.{Name}
-use Rattle.written.specs.Model.{Entry, Named, renamed, number-of, among}
-use Rattle.written.specs.Store.{Row, cell, MARK, name-at, names-from, third, block-at, entry-of, heads, connectors, block-cells, word-cells, word-rows, name-cells, all-name-cells, with-names, numbered, with-block, Whole-name, Whole-block, Whole-row}
+use Rattle.written.specs.Model.{renamed, number-of, among}
+use Rattle.written.specs.Store.{cell, MARK, name-at, names-from, third, block-at, entry-of, heads, connectors, block-cells, word-cells, word-rows, all-name-cells, with-names, numbered, with-block, Whole-name, Whole-block, Whole-row}
 use Rattle.written.proofs.Renamed.{Asks, asks-weaker, renamed-back}
 use Rattle.written.proofs.Fronts.{name-kept, whole-name-kept}
 use Rattle.written.proofs.Blocks.{Stands, stands-within, stands-cells, stands-front, stands-after, Fits, length-heads, block-read, block-whole}
 use Rattle.written.proofs.Names.{Plain, Sound, sound-whole, names-append, names-none, names-placed, placed, named, Named-ok, plain-below, among-placed}
 
--- What is known of a line place by place, disjunct by disjunct.
+-- What is known of a line place by place holds of its lists.
 pub fits-from : (ds : List (Disjunct Name)) → ((k : ℕ) (s : Side) → length (side-of (getD ds k free) s) ≤ 8) → All Fits ds
 fits-from [] h = tt
 fits-from (d ∷ ds) h = ((h 0 Left, h 0 Right), fits-from ds (λ k. h (suc k)))
@@ -27,9 +27,10 @@ fits-from (d ∷ ds) h = ((h 0 Left, h 0 Right), fits-from ds (λ k. h (suc k)))
 pub named-from : (ds : List (Disjunct Name)) → ((k i : ℕ) (s : Side) → Named-ok (getD (side-of (getD ds k free) s) i [])) →
     All (Asks Named-ok) ds
 named-from [] h = tt
-named-from (d ∷ ds) h =
-    ((all-from-getD Named-ok (d .left) [] (λ i _. h 0 i Left), all-from-getD Named-ok (d .right) [] (λ i _. h 0 i Right)),
-     named-from ds (λ k. h (suc k)))
+named-from (d ∷ ds) h = (
+  (all-from-getD Named-ok (d .left) [] (λ i _. h 0 i Left), all-from-getD Named-ok (d .right) [] (λ i _. h 0 i Right)),
+  named-from ds (λ k. h (suc k)),
+)
 
 pub plain-words : (words : List (List ℕ)) → ((w j : ℕ) → getD (getD words w []) j 0 < 256) → Plain (word-cells words)
 unfolding word-cells
@@ -46,9 +47,10 @@ small-plain xs h = all-weaker (λ x. x < MARK) (λ x. x < 2 ^ 16) (λ x l. omega
 pub small-names : (ns : List Name) → All Named-ok ns → Small (all-name-cells ns)
 unfolding all-name-cells
 small-names [] h = tt
-small-names (n ∷ ns) ((l, b), h) =
-    (omega arith,
-     (omega arith, all-append (λ x. x < 2 ^ 16) n (all-name-cells ns) (small-plain n (plain-below n b)) (small-names ns h)))
+small-names (n ∷ ns) ((l, b), h) = (
+  omega arith,
+  (omega arith, all-append (λ x. x < 2 ^ 16) n (all-name-cells ns) (small-plain n (plain-below n b)) (small-names ns h)),
+)
 
 pub small-cell : (xs : List ℕ) → Small xs → (i : ℕ) → cell xs i < 2 ^ 16
 small-cell [] h i = omega arith
@@ -73,7 +75,7 @@ unfolding heads connectors
 plain-heads at [] f h = tt
 plain-heads at (d ∷ ds) ((l, r), f) h =
     let n : length (d .left ++ (d .right ++ connectors ds)) ≡ length (d .left) + (length (d .right) + length (connectors ds)) =
-        simp length-append
+    simp length-append
     in (omega arith, (omega arith, (omega arith, plain-heads (at + (length (d .left) + length (d .right))) ds f (omega arith))))
 
 plain-connectors : (ds : List (Disjunct ℕ)) → All (Asks (λ p. p < MARK)) ds → Plain (connectors ds)
@@ -89,7 +91,8 @@ plain-block b ds few fits low room =
     let at = third b (length ds) in
     let n = length-append (heads at ds) (connectors ds) in
     let k = length-heads at ds in
-    let rest = all-append (λ x. x < MARK) (heads at ds) (connectors ds) (plain-heads at ds fits (omega arith)) (plain-connectors ds low) in
+    let h = plain-heads at ds fits (omega arith) in
+    let rest = all-append (λ x. x < MARK) (heads at ds) (connectors ds) h (plain-connectors ds low) in
     (omega arith, (omega arith, (omega arith, (omega arith, rest))))
 
 -- Disjuncts with their connectors renamed.
@@ -97,7 +100,8 @@ asks-renamed : {A B : Type 0} (f : A → B) (P : B → Type 0) (ds : List (Disju
     All (Asks P) (map (renamed f) ds)
 asks-renamed f P ds h =
     all-map (Asks P) (renamed f) ds
-    (all-weaker (Asks (λ x. P (f x))) (λ d. Asks P (renamed f d)) (λ d p. (all-map P f (d .left) (p .0), all-map P f (d .right) (p .1))) ds h)
+    (all-weaker (Asks (λ x. P (f x))) (λ d. Asks P (renamed f d))
+    (λ d p. (all-map P f (d .left) (p .0), all-map P f (d .right) (p .1))) ds h)
 
 fits-renamed : {A B : Type 0} (f : A → B) (ds : List (Disjunct A)) → All Fits ds → All Fits (map (renamed f) ds)
 fits-renamed f ds h =
@@ -118,7 +122,8 @@ told F s n h =
 
 -- A block behind a front in which its names are told.
 module _ (F : List ℕ) (ds : List (Disjunct Name)) (known : All (Asks (Told F)) ds) where
-  pub plain-numbered : length ds ≤ 64 → All Fits ds → length (with-block F ds) < MARK → Plain (block-cells (length F) (numbered F ds))
+  pub plain-numbered : length ds ≤ 64 → All Fits ds → length (with-block F ds) < MARK →
+      Plain (block-cells (length F) (numbered F ds))
   plain-numbered few fits room =
       let b = block-cells (length F) (numbered F ds) in
       let n = length-append F b in
@@ -134,7 +139,8 @@ module _ (F : List ℕ) (ds : List (Disjunct Name)) (known : All (Asks (Told F))
         record { before = F; rest = G; is = append-assoc F (block-cells (length F) (numbered F ds)) G; place = refl }
 
     told-after : (n : Name) → Told F n →
-        Whole-name (with-block F ds ++ G) (number-of (names-from 0 F) n) × (name-at (with-block F ds ++ G) (number-of (names-from 0 F) n) ≡ n)
+        Whole-name (with-block F ds ++ G) (number-of (names-from 0 F) n)
+        × (name-at (with-block F ds ++ G) (number-of (names-from 0 F) n) ≡ n)
     told-after n (w, e) =
         let b = block-cells (length F) (numbered F ds) in
         let p = number-of (names-from 0 F) n in
@@ -174,6 +180,7 @@ module _ (front : List ℕ) (b : ℕ) where
       All (Whole-row front) (word-rows at b words)
   unfolding word-cells word-rows
   words-whole h [] at s = tt
-  words-whole h (w ∷ ws) at s =
-      ((stands-within front at w (stands-front front at w (word-cells ws) s), h),
-       words-whole h ws (at + length w) (stands-after front at w (word-cells ws) s (at + length w) refl))
+  words-whole h (w ∷ ws) at s = (
+    (stands-within front at w (stands-front front at w (word-cells ws) s), h),
+    words-whole h ws (at + length w) (stands-after front at w (word-cells ws) s (at + length w) refl),
+  )

@@ -1,24 +1,23 @@
 -- The names of a front: those of an extended front, the names that new cells bring, and looking a name up by its number
 -- and a number by its name.
 use mathlib.Core.Bool.{Bool, true, false, cond}
-use mathlib.Core.Path.{_≡_, refl, sym, ap, ap₂, subst, _∙_}
-use mathlib.Core.List.{List, [], _∷_, _++_, map, append-nil}
+use mathlib.Core.Path.{_≡_, refl, sym, ap, ap₂, _∙_}
+use mathlib.Core.List.{List, [], _∷_, _++_, map}
 use mathlib.Core.Logic.{⊎-elim}
 use Prim.Native.Nat.{ℕ, zero, suc, _+_, _≤_, _<_}
 use native.Mathlib.Omega.{arith}
 use lib.Dec.{eqb}
-use lib.ListN.{length, take, drop, getD, length-append}
+use lib.ListN.{length, getD, length-append}
 use lib.Seq.{take-length}
 use Rattle.std.specs.shelf.Lists.{All}
-use Rattle.std.specs.declared.option.Option.{Option}
 use Rattle.std.specs.declared.option.Option.the-variants.{Some, None}
-use Rattle.std.proofs.shelf.Tests.{true≢false, false≢true, eqb-true, eqb-false, eq-eqb, ne-eqb, or-left, or-right, or-cases, cases-bool, cond-both, cond-true, cond-false}
+use Rattle.std.proofs.shelf.Tests.{true≢false, false≢true, eqb-true, eq-eqb, ne-eqb, or-left, or-right, or-cases, cases-bool, cond-both, cond-true, cond-false}
 use Rattle.formula.specs.Tokens.{Name}
 use Rattle.written.specs.Matching.{same}
 use Rattle.written.specs.Model.{Named, among, number-of, name-of}
 use Rattle.written.specs.Store.{cell, cells, MARK, name-at, names-from, name-cells, all-name-cells, Whole-name}
 use Rattle.written.proofs.Fronts.{cell-kept, cells-kept}
-use Rattle.written.proofs.Known.{same-itself, same-eq, eq-same, Distinct}
+use Rattle.written.proofs.Known.{same-eq, eq-same, Distinct}
 
 -- Cells none of which is a mark.
 abbrev pub Plain : List ℕ → Type 0
@@ -47,22 +46,24 @@ sound-whole (c ∷ cs) (h, s) (suc p) e =
 
 pub whole-sound : (F : List ℕ) → ((p : ℕ) → cell F p ≡ MARK → Whole-name F p) → Sound F
 whole-sound [] w = tt
-whole-sound (c ∷ cs) w =
-    (λ e. let h = w 0 e .2 in omega arith,
-     whole-sound cs (λ p e.
-       let (l, m, n) = w (suc p) e in
-       let t = cell-tail c cs p 1 in
-       (omega arith, e, omega arith)))
+whole-sound (c ∷ cs) w = (
+  λ e. let h = w 0 e .2 in omega arith,
+  whole-sound cs (λ p e.
+      let (l, m, n) = w (suc p) e in
+      let t = cell-tail c cs p 1 in
+      (omega arith, e, omega arith)),
+)
 
 pub sound-append : (F G : List ℕ) → Sound F → Sound G → Sound (F ++ G)
 sound-append [] G s t = t
-sound-append (c ∷ cs) G (h, s) t =
-    (λ e.
-       let l = h e in
-       let k = cell-kept cs G 0 (omega arith) in
-       let n = length-append cs G in
-       omega arith,
-     sound-append cs G s t)
+sound-append (c ∷ cs) G (h, s) t = (
+  λ e.
+      let l = h e in
+      let k = cell-kept cs G 0 (omega arith) in
+      let n = length-append cs G in
+      omega arith,
+  sound-append cs G s t,
+)
 
 pub sound-plain : (xs : List ℕ) → Plain xs → Sound xs
 sound-plain [] p = tt
@@ -79,13 +80,14 @@ unfolding names-from
 names-append q [] G s = let e : q ≡ q + 0 = omega arith in ap (λ k. names-from k G) e
 names-append q (c ∷ cs) G (h, s) =
     let e : suc q + length cs ≡ q + suc (length cs) = omega arith in
-    cons-append (eqb c MARK) (record { name = name-at (c ∷ (cs ++ G)) 0; number = q }) (record { name = name-at (c ∷ cs) 0; number = q })
+    cons-append (eqb c MARK) (record { name = name-at (c ∷ (cs ++ G)) 0; number = q })
+    (record { name = name-at (c ∷ cs) 0; number = q })
     (names-from (suc q) (cs ++ G)) (names-from (suc q) cs) (names-from (q + suc (length cs)) G)
     (λ t.
-      let l = h (eqb-true c MARK t) in
-      let n : name-at (c ∷ (cs ++ G)) 0 ≡ name-at (c ∷ cs) 0 =
-          ap (cells (cs ++ G) 1) (cell-kept cs G 0 (omega arith)) ∙ cells-kept cs G 1 (getD cs 0 0) l
-      in λ i. record { name = n i; number = q })
+    let l = h (eqb-true c MARK t) in
+    let n : name-at (c ∷ (cs ++ G)) 0 ≡ name-at (c ∷ cs) 0 =
+    ap (cells (cs ++ G) 1) (cell-kept cs G 0 (omega arith)) ∙ cells-kept cs G 1 (getD cs 0 0) l
+    in λ i. record { name = n i; number = q })
     (names-append (suc q) cs G s ∙ ap (λ k. names-from (suc q) cs ++ names-from k G) e)
 
 pub names-none : (q : ℕ) (xs : List ℕ) → Plain xs → names-from q xs ≡ []
@@ -144,8 +146,8 @@ name-below q (c ∷ cs) k h =
     cond-both (eqb c MARK) (record { name = name-at (c ∷ cs) 0; number = q } ∷ names-from (suc q) cs) (names-from (suc q) cs)
     (λ ms. name-of ms k ≡ None)
     (λ _.
-      cond-false (eqb q k) (Some (name-at (c ∷ cs) 0)) (name-of (names-from (suc q) cs) k) (ne-eqb q k (λ e. omega arith))
-      ∙ name-below (suc q) cs k (omega arith))
+    cond-false (eqb q k) (Some (name-at (c ∷ cs) 0)) (name-of (names-from (suc q) cs) k) (ne-eqb q k (λ e. omega arith))
+    ∙ name-below (suc q) cs k (omega arith))
     (λ _. name-below (suc q) cs k (omega arith))
 
 pub name-found : (q : ℕ) (F : List ℕ) (i k : ℕ) → q + i ≡ k →
@@ -161,7 +163,7 @@ name-found q (c ∷ cs) zero k e = go (eqb c MARK)
     go false = name-below (suc q) cs k (omega arith)
 name-found q (c ∷ cs) (suc i) k e =
     let rest : name-of (names-from (suc q) cs) k ≡ cond (eqb (cell cs i) MARK) (Some (name-at (c ∷ cs) (suc i))) None =
-        name-found (suc q) cs i k (omega arith) ∙ ap (λ n. cond (eqb (cell cs i) MARK) (Some n) None) (sym (name-tail c cs i))
+    name-found (suc q) cs i k (omega arith) ∙ ap (λ n. cond (eqb (cell cs i) MARK) (Some n) None) (sym (name-tail c cs i))
     in cond-both (eqb c MARK) (record { name = name-at (c ∷ cs) 0; number = q } ∷ names-from (suc q) cs) (names-from (suc q) cs)
     (λ ms. name-of ms k ≡ cond (eqb (cell cs i) MARK) (Some (name-at (c ∷ cs) (suc i))) None)
     (λ _. cond-false (eqb q k) (Some (name-at (c ∷ cs) 0)) (name-of (names-from (suc q) cs) k) (ne-eqb q k (λ f. omega arith)) ∙ rest)
@@ -178,7 +180,8 @@ pub mark-among : (q : ℕ) (F : List ℕ) (i : ℕ) (n : Name) → cell F i ≡ 
 unfolding names-from among
 mark-among q [] i n e f = absurd (omega arith)
 mark-among q (c ∷ cs) zero n e f =
-    rw (eq-eqb c MARK e) (or-left (same n (name-at (c ∷ cs) 0)) (among n (named (suc q) cs)) (eq-same n (name-at (c ∷ cs) 0) (sym f)))
+    rw (eq-eqb c MARK e)
+    (or-left (same n (name-at (c ∷ cs) 0)) (among n (named (suc q) cs)) (eq-same n (name-at (c ∷ cs) 0) (sym f)))
 mark-among q (c ∷ cs) (suc i) n e f =
     let rest = mark-among (suc q) cs i n e (sym (name-tail c cs i) ∙ f) in
     cond-both (eqb c MARK) (record { name = name-at (c ∷ cs) 0; number = q } ∷ names-from (suc q) cs) (names-from (suc q) cs)
@@ -206,12 +209,12 @@ among-placed q (c ∷ cs) n =
     cond-both (eqb c MARK) (record { name = here; number = q } ∷ names-from (suc q) cs) (names-from (suc q) cs)
     (λ ms. among n (map (λ (m : Named). m .name) ms) ≡ true → Placed q (c ∷ cs) n (number-of ms n))
     (λ e h.
-      cond-both (same here n) q (number-of (names-from (suc q) cs) n) (Placed q (c ∷ cs) n)
-      (λ t. record { at-mark = 0; number-is = omega arith; marked = eqb-true c MARK e; called = same-eq here n t })
-      (λ f.
-        placed-tail q c cs n (number-of (names-from (suc q) cs) n)
-        (rest (⊎-elim (λ t. absurd (true≢false (sym (eq-same here n (sym (same-eq n here t))) ∙ f))) (λ r. r)
-        (or-cases (same n here) (among n (named (suc q) cs)) h)))))
+    cond-both (same here n) q (number-of (names-from (suc q) cs) n) (Placed q (c ∷ cs) n)
+    (λ t. record { at-mark = 0; number-is = omega arith; marked = eqb-true c MARK e; called = same-eq here n t })
+    (λ f.
+    placed-tail q c cs n (number-of (names-from (suc q) cs) n)
+    (rest (⊎-elim (λ t. absurd (true≢false (sym (eq-same here n (sym (same-eq n here t))) ∙ f))) (λ r. r)
+    (or-cases (same n here) (among n (named (suc q) cs)) h)))))
     (λ _ h. placed-tail q c cs n (number-of (names-from (suc q) cs) n) (rest h))
 
 -- No name stands at two marks.
@@ -231,19 +234,20 @@ apart-distinct q [] a = tt
 apart-distinct q (c ∷ cs) a =
     let here = name-at (c ∷ cs) 0 in
     let rest = apart-distinct (suc q) cs
-        (λ i j e f g.
-          let s = a (suc i) (suc j) e f (name-tail c cs i ∙ (g ∙ sym (name-tail c cs j))) in
-          omega arith)
+    (λ i j e f g.
+    let s = a (suc i) (suc j) e f (name-tail c cs i ∙ (g ∙ sym (name-tail c cs j))) in
+    omega arith)
     in cond-both (eqb c MARK) (record { name = here; number = q } ∷ names-from (suc q) cs) (names-from (suc q) cs)
     (λ ms. Distinct (map (λ (m : Named). m .name) ms))
-    (λ e.
-      (⊎-elim
-       (λ t.
-         let p = among-placed (suc q) cs here t in
-         let s = a 0 (suc (p .at-mark)) (eqb-true c MARK e) (p .marked) (sym (name-tail c cs (p .at-mark) ∙ p .called)) in
-         absurd (omega arith))
-       (λ f. f) (cases-bool (among here (named (suc q) cs))),
-       rest))
+    (λ e. (
+      ⊎-elim
+          (λ t.
+          let p = among-placed (suc q) cs here t in
+          let s = a 0 (suc (p .at-mark)) (eqb-true c MARK e) (p .marked) (sym (name-tail c cs (p .at-mark) ∙ p .called)) in
+          absurd (omega arith))
+          (λ f. f) (cases-bool (among here (named (suc q) cs))),
+      rest,
+    ))
     (λ _. rest)
 
 distinct-tail : (q c : ℕ) (cs : List ℕ) → Distinct (named q (c ∷ cs)) → Distinct (named (suc q) cs)

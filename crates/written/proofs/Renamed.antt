@@ -1,10 +1,9 @@
 -- Disjuncts whose connectors are renamed: functions that agree on the connectors rename alike, and a renaming that undoes
 -- another gives the disjuncts back. Also what holds along a list that is counted out.
-use mathlib.Core.Path.{_≡_, refl, sym, ap, ap₂, _∙_}
+use mathlib.Core.Path.{_≡_, refl, ap₂}
 use mathlib.Core.List.{List, [], _∷_, _++_, map}
 use Prim.Native.Nat.{ℕ, zero, suc, _+_, _≤_, _<_}
 use native.Mathlib.Omega.{arith}
-use lib.ListN.{length}
 use Rattle.std.specs.shelf.Lists.{All}
 use Rattle.std.proofs.shelf.Elements.{all-append, all-weaker}
 use Rattle.lexicon.specs.Lexicon.{Disjunct}
@@ -18,7 +17,8 @@ Asks P d = All P (d .left) × All P (d .right)
 
 pub asks-weaker : {A : Type 0} (P Q : A → Type 0) → ((x : A) → P x → Q x) → (ds : List (Disjunct A)) →
     All (Asks P) ds → All (Asks Q) ds
-asks-weaker P Q f ds h = all-weaker (Asks P) (Asks Q) (λ d p. (all-weaker P Q f (d .left) (p .0), all-weaker P Q f (d .right) (p .1))) ds h
+asks-weaker P Q f ds h =
+    all-weaker (Asks P) (Asks Q) (λ d p. (all-weaker P Q f (d .left) (p .0), all-weaker P Q f (d .right) (p .1))) ds h
 
 module _ {A B : Type 0} where
   pub map-same : (f g : A → B) (xs : List A) → All (λ x. f x ≡ g x) xs → map f xs ≡ map g xs

@@ -2,8 +2,8 @@
 -- the names that were new.
 use mathlib.Core.Bool.{true}
 use mathlib.Core.Path.{_≡_, refl, sym, ap, ap₂, subst, _∙_}
-use mathlib.Core.List.{List, [], _∷_, _++_, map, append-assoc, append-nil}
-use Prim.Native.Nat.{ℕ, _+_, _≤_, _<_, _^_}
+use mathlib.Core.List.{List, [], _++_, map, append-assoc, append-nil}
+use Prim.Native.Nat.{ℕ, _≤_, _<_, _^_}
 use native.Mathlib.Omega.{arith}
 use lib.ListN.{length, getD, length-append, length-map}
 use Rattle.std.specs.shelf.Lists.{All}
@@ -13,10 +13,10 @@ use Rattle.lexicon.specs.declared.side.Side.{Side}
 use Rattle.lexicon.specs.Lexicon.{Disjunct, side-of, free}
 use Rattle.formula.specs.Tokens.{Name}
 use Rattle.written.specs.Model.{Entry, Named, renamed, number-of, among, mentioned, fresh, lexicon, no-entry}
-use Rattle.written.specs.Store.{Row, Store, cell, MARK, name-at, names-from, block-at, entry-of, model, block-cells, word-cells, word-rows, all-name-cells, with-names, numbered, with-block, names-of, with-line, no-row, Whole-name, Whole-row, Whole}
+use Rattle.written.specs.Store.{Store, MARK, name-at, names-from, block-at, entry-of, model, block-cells, word-cells, word-rows, all-name-cells, with-names, numbered, with-block, names-of, with-line, no-row, Whole-name, Whole-row, Whole}
 use Rattle.written.proofs.Renamed.{Asks, asks-weaker, renamed-back, map-same, all-mentioned, mentioned-all}
 use Rattle.written.proofs.Fronts.{block-named, whole-row-kept, entry-kept}
-use Rattle.written.proofs.Blocks.{Stands, Fits}
+use Rattle.written.proofs.Blocks.{Stands}
 use Rattle.written.proofs.Known.{Distinct, fresh-distinct, fresh-among, fresh-all}
 use Rattle.written.proofs.Names.{Plain, Sound, sound-append, sound-plain, sound-names, whole-sound, sound-whole, Named-ok, placed, placed-names, named, number-known, apart-distinct, distinct-apart}
 use Rattle.written.proofs.Lines.{fits-from, named-from, plain-words, Small, small-plain, small-names, small-cell, names-more, names-behind, Told, told, plain-numbered, block-after, whole-block-after, words-read, words-whole}
@@ -98,7 +98,8 @@ module _ (s : Store) (whole : Whole s) (words : List (List ℕ)) (ds : List (Dis
       names-behind (with-block N ds) (word-cells words) sound-blocked (plain-words words bytes)
       ∙ names-behind N (block-cells (length N) (numbered N ds)) sound-named plain-behind
 
-  pub names-after : map (λ (m : Named). m .name) (model (with-line s words ds) .names) ≡ names-of s ++ fresh (names-of s) (mentioned ds)
+  pub names-after : map (λ (m : Named). m .name) (model (with-line s words ds) .names)
+      ≡ names-of s ++ fresh (names-of s) (mentioned ds)
   names-after = ap (map (λ (m : Named). m .name)) names-same ∙ named-more
 
   pub names-kept : (more : List Named) × (model (with-line s words ds) .names ≡ model s .names ++ more)
@@ -125,7 +126,8 @@ module _ (s : Store) (whole : Whole s) (words : List (List ℕ)) (ds : List (Dis
   old-rows : All (Whole-row (s .front)) (s .rows)
   old-rows = all-from-getD (Whole-row (s .front)) (s .rows) no-row (whole .0)
 
-  pub entries-after : model (with-line s words ds) .entries ≡ model s .entries ++ map (λ w. record { word = w; disjuncts = ds }) words
+  pub entries-after : model (with-line s words ds) .entries
+      ≡ model s .entries ++ map (λ w. record { word = w; disjuncts = ds }) words
   entries-after =
       let N = with-new s ds in
       let front = with-line s words ds .front in
@@ -161,10 +163,11 @@ module _ (s : Store) (whole : Whole s) (words : List (List ℕ)) (ds : List (Dis
 
   pub whole-after : Whole (with-line s words ds)
   whole-after =
-      let front = with-line s words ds .front in
-      (λ w h. all-getD (Whole-row front) (with-line s words ds .rows) w no-row h whole-rows,
-       sound-whole front (sound-append (with-block (with-new s ds) ds) (word-cells words) sound-blocked
-       (sound-plain (word-cells words) (plain-words words bytes))),
-       distinct-apart 0 front
-       (subst Distinct (sym names-after) (fresh-distinct (names-of s) (mentioned ds) (apart-distinct 0 (s .front) (whole .2)))),
-       small-cell front small)
+      let front = with-line s words ds .front in (
+        λ w h. all-getD (Whole-row front) (with-line s words ds .rows) w no-row h whole-rows,
+        sound-whole front (sound-append (with-block (with-new s ds) ds) (word-cells words) sound-blocked
+            (sound-plain (word-cells words) (plain-words words bytes))),
+        distinct-apart 0 front
+            (subst Distinct (sym names-after) (fresh-distinct (names-of s) (mentioned ds) (apart-distinct 0 (s .front) (whole .2)))),
+        small-cell front small,
+      )
