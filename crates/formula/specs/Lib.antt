@@ -1,6 +1,8 @@
 pub mod Cuts
 pub mod Faults
 pub mod Formulas
+pub mod Progress
 pub mod Reading
+pub mod Shown
 pub mod Tokens
 pub mod Ways
