@@ -1,0 +1,15 @@
+use crate::names::Names;
+
+/// One side of a way, as far as it can become a list of a disjunct.
+#[derive(Clone, Copy)]
+pub enum Half {
+    Listed(Names),
+    TooLong,
+}
+
+/// A way of meeting a formula.
+#[derive(Clone, Copy)]
+pub struct Way {
+    pub left: Half,
+    pub right: Half,
+}
