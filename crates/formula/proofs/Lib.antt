@@ -1,3 +1,4 @@
 pub mod Grammar
 pub mod Lays
 pub mod Places
+pub mod Tables
