@@ -2,3 +2,4 @@ pub mod Grammar
 pub mod Lays
 pub mod Places
 pub mod Steps
+pub mod Tables

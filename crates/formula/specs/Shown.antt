@@ -1,7 +1,7 @@
 -- Which ways the program's own tables show. A list of more than 8 connectors is known only to be too long, and more than 64
 -- ways are known only to be too many; both are refused in the end, but only once the whole formula is read.
 use mathlib.Core.Bool.{cond}
-use mathlib.Core.List.{List, map}
+use mathlib.Core.List.{List, _++_, map}
 use mathlib.Core.Path.{_≡_}
 use Prim.Native.Nat.{ℕ, _<_}
 use lib.Dec.{ltb}
@@ -19,8 +19,11 @@ use Rattle.formula.specs.declared.ways.Ways.the-variants as all-ways
 use Rattle.formula.specs.Cuts.{name-there}
 use Rattle.formula.specs.Tokens.{Name}
 
+abbrev pub places-of : Names → List ℕ
+places-of n = take (n .len) (n .places)
+
 abbrev pub names-of : List ℕ → Names → List Name
-names-of formula n = map (name-there formula) (take (n .len) (n .places))
+names-of formula n = map (name-there formula) (places-of n)
 
 abbrev pub half : List ℕ → Half → Option (List Name)
 half formula (half-list.Listed n) = Some (names-of formula n)
@@ -40,10 +43,22 @@ short l = cond (ltb 8 (length l)) None (Some l)
 abbrev pub clip : Disjunct Name → Clipped
 clip d = record { left = short (d .left); right = short (d .right) }
 
+-- What is shown of two lists that are joined, and of two ways.
+abbrev pub half-glue : Option (List Name) → Option (List Name) → Option (List Name)
+half-glue (Some l) (Some m) = short (l ++ m)
+half-glue (Some l) None = None
+half-glue None m = None
+
+abbrev pub clip-glue : Clipped → Clipped → Clipped
+clip-glue c d = record { left = half-glue (c .left) (d .left); right = half-glue (c .right) (d .right) }
+
 abbrev pub items-of : Listing → List Way
 items-of l = take (l .len) (l .items)
 
+abbrev pub table : List ℕ → Listing → List Clipped
+table formula l = map (shown formula) (items-of l)
+
 -- Every formula has at least one way.
 abbrev pub Shows : List ℕ → Ways → List (Disjunct Name) → Type 0
-Shows formula (all-ways.Listed l) ds = (0 < length ds) × (map (shown formula) (items-of l) ≡ map clip ds)
+Shows formula (all-ways.Listed l) ds = (0 < length ds) × (table formula l ≡ map clip ds)
 Shows formula all-ways.Many ds = 64 < length ds
