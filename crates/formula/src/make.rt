@@ -1,6 +1,7 @@
 ghost use mathlib.Core.List.{List, [], _∷_, _++_, map};
 ghost use mathlib.Core.Path.{_≡_};
 ghost use Prim.Native.Nat.{ℕ, _+_, _<_, _≤_};
+ghost use Rattle.std.specs.Orderings.{When};
 ghost use Rattle.lexicon.specs.Lexicon.{Disjunct, free};
 ghost use Rattle.formula.specs.Cuts.{name-there};
 ghost use Rattle.formula.specs.Shown.{Shows, clip, half, half-glue, clip-glue, items-of, names-of, places-of, short, shown, table};
@@ -20,6 +21,18 @@ const MOST_WAYS: usize = 64;
 /// A disjunct has at most so many connectors on one side.
 const LONGEST_LIST: usize = 8;
 
+fn too_many(ways: usize) -> bool
+    ensures { λ r. ⌜ When r (64 < ways) (ways ≤ 64) ⌝ }
+{
+    ways > MOST_WAYS
+}
+
+fn too_long(list: usize) -> bool
+    ensures { λ r. ⌜ When r (8 < list) (list ≤ 8) ⌝ }
+{
+    list > LONGEST_LIST
+}
+
 /// One connector more, farther from the word than the others.
 fn add(names: &mut Names, place: usize)
     requires { ⌜ now names .len < 8 ⌝ }
@@ -34,7 +47,7 @@ fn add(names: &mut Names, place: usize)
 fn append(a: &Names, b: &Names) -> Half
     ensures { λ r. ⌜ ((xs : List ℕ) → half xs r ≡ short (names-of xs (now (a .entry)) ++ names-of xs (now (b .entry)))) ⌝ }
 {
-    if a.len + b.len > LONGEST_LIST {
+    if too_long(a.len + b.len) {
         return Half::TooLong;
     }
     let mut both = *a;
@@ -101,7 +114,7 @@ fn spread(listing: &mut Listing, way: &Way, others: &Listing)
 fn product(a: &Listing, b: &Listing) -> Ways
     ensures { λ r. ⌜ ((xs : List ℕ) (ds es : List (Disjunct Name)) → Shows xs (Ways.Listed (now (a .entry))) ds → Shows xs (Ways.Listed (now (b .entry))) es → Shows xs r (each-with-each ds es)) ⌝ }
 {
-    if a.len * b.len > MOST_WAYS {
+    if too_many(a.len * b.len) {
         return Ways::Many;
     }
     let mut all = no_ways();
@@ -115,7 +128,7 @@ fn product(a: &Listing, b: &Listing) -> Ways
 fn either(a: &Listing, b: &Listing) -> Ways
     ensures { λ r. ⌜ ((xs : List ℕ) (ds es : List (Disjunct Name)) → Shows xs (Ways.Listed (now (a .entry))) ds → Shows xs (Ways.Listed (now (b .entry))) es → Shows xs r (ds ++ es)) ⌝ }
 {
-    if a.len + b.len > MOST_WAYS {
+    if too_many(a.len + b.len) {
         return Ways::Many;
     }
     let mut all = *a;

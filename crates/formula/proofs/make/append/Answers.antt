@@ -9,19 +9,17 @@ use Rattle.formula.specs.Shown.{names-of, places-of}
 use Rattle.formula.proofs.Tables.{copied-more, fits, length-names, too-long}
 use Rattle.formula.proofs.make.append.Needs as need
 
-pub returns-then-a-b-gt-LONGEST-LIST : need.returns-then-a-b-gt-LONGEST-LIST
-returns-then-a-b-gt-LONGEST-LIST c xs =
+pub returns-then-too-long : need.returns-then-too-long
+returns-then-too-long c xs =
     let a = c .args .a .now
     in let b = c .args .b .now
     in let p = length-names xs a
     in let q = length-names xs b
+    in let h = c .if-too-long .ensures tt
     in sym (too-long (names-of xs a ++ names-of xs b) (simp length-append (omega arith)))
 
 pub loop-i-holds : need.loop-i-holds
 loop-i-holds c = (omega arith, sym (append-nil (places-of (c .args .a .now))))
-
-pub add-requires : need.add-requires
-add-requires c κs = omega arith
 
 pub loop-i-again : need.loop-i-again
 loop-i-again c =
@@ -38,6 +36,7 @@ returns c xs =
     in let b = c .args .b .now
     in let p = length-names xs a
     in let q = length-names xs b
+    in let h = c .if-too-long .ensures tt
     in let e : c .loop-i .i ≡ b .len = omega arith
     in let t : places-of (c .loop-i .both) ≡ places-of a ++ places-of b =
         c .loop-i .inv .1 ∙ ap (λ i. places-of a ++ take i (b .places)) e

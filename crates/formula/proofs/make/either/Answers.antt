@@ -7,17 +7,15 @@ use Rattle.formula.specs.Shown.{clip, items-of, shown, table}
 use Rattle.formula.proofs.Tables.{copied-more, length-shown}
 use Rattle.formula.proofs.make.either.Needs as need
 
-pub returns-then-a-b-gt-MOST-WAYS : need.returns-then-a-b-gt-MOST-WAYS
-returns-then-a-b-gt-MOST-WAYS c xs ds es f g =
+pub returns-then-too-many : need.returns-then-too-many
+returns-then-too-many c xs ds es f g =
     let p = length-shown xs (c .args .a .now) ds (f .1)
     in let q = length-shown xs (c .args .b .now) es (g .1)
+    in let h = c .if-too-many .ensures tt
     in simp length-append (omega arith)
 
 pub loop-i-holds : need.loop-i-holds
 loop-i-holds c = (omega arith, sym (append-nil (items-of (c .args .a .now))))
-
-pub push-requires : need.push-requires
-push-requires c κs = omega arith
 
 pub loop-i-again : need.loop-i-again
 loop-i-again c =

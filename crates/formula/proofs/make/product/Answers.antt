@@ -14,12 +14,12 @@ use Rattle.formula.proofs.make.product.Needs as need
 more : (i n : ℕ) → (i + 1) * n ≡ i * n + n
 more i n = add-mul i 1 n ∙ ap (λ k. i * n + k) (one-mul n)
 
-pub returns-then-a-b-gt-MOST-WAYS : need.returns-then-a-b-gt-MOST-WAYS
-returns-then-a-b-gt-MOST-WAYS c xs ds es f g =
+pub returns-then-too-many : need.returns-then-too-many
+returns-then-too-many c xs ds es f g =
     let p = length-shown xs (c .args .a .now) ds (f .1)
     in let q = length-shown xs (c .args .b .now) es (g .1)
     in let l : length ds * length es ≡ c .args .a .now .len * c .args .b .now .len = cc
-    in omega (arith, length-product ds es)
+    in omega (arith, length-product ds es, c .if-too-many .ensures tt)
 
 pub loop-i-holds : need.loop-i-holds
 unfolding crossed
@@ -31,7 +31,7 @@ pub spread-requires : need.spread-requires
 spread-requires c κs =
     let n = c .args .b .now .len
     in let h : (c .loop-i .i + 1) * n ≤ c .args .a .now .len * n = mul-le-mul-right n (omega arith)
-    in omega (arith, more (c .loop-i .i) n)
+    in omega (arith, more (c .loop-i .i) n, c .if-too-many .ensures tt)
 
 pub loop-i-again : need.loop-i-again
 loop-i-again c =

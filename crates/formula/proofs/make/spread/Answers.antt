@@ -11,9 +11,6 @@ use Rattle.formula.proofs.make.spread.Needs as need
 pub loop-j-holds : need.loop-j-holds
 loop-j-holds c = (omega arith, λ xs. sym (append-nil (table xs (c .args .listing .now))))
 
-pub push-requires : need.push-requires
-push-requires c κs = omega arith
-
 pub loop-j-again : need.loop-j-again
 loop-j-again c = (omega arith, λ xs.
     let was = c .loop-j .listing
