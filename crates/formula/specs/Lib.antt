@@ -1,6 +1,7 @@
 pub mod Cuts
 pub mod Faults
 pub mod Formulas
+pub mod Meaning
 pub mod Progress
 pub mod Reading
 pub mod Shown

@@ -7,6 +7,7 @@
 //! - `row`, `read`: formula and item readers, which call each other.
 //! - `disjuncts`: the disjuncts of a formula, in such a table.
 //! - `keep`: from the ways to the disjuncts, each kept once.
+//! - `meaning`: all of it, from bytes to disjuncts.
 //! - `fault`: a refusal with its place in the formula.
 
 pub mod cut;
@@ -15,6 +16,7 @@ pub mod fault;
 pub mod keep;
 pub mod listing;
 pub mod make;
+pub mod meaning;
 pub mod name;
 pub mod names;
 pub mod read;
