@@ -1,3 +1,4 @@
 pub mod Matching
 pub mod Model
+pub mod Pages
 pub mod Store

@@ -1,3 +1,8 @@
 //! Written dictionaries: lines are taken into a draft over lent memory, and closing makes it a dictionary.
+//!
+//! - `page`: the lent table.
+//! - `draft`, `closed`: a draft, and the dictionary that closing makes of it.
 
-pub fn one() -> u8 { 1 }
+pub mod closed;
+pub mod draft;
+pub mod page;
