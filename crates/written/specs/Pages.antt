@@ -1,8 +1,10 @@
 -- What a lent table holds, by how much of its front is written and how many words have rows at its back.
-use mathlib.Core.List.{List}
+use denote.Ref.{now}
+use mathlib.Core.List.{List, [], _∷_, _++_}
 use Prim.Native.Nat.{ℕ, min, _+_, _-_, _*_}
 use lib.ListN.{length, take, getD}
 use Rattle.written.specs.Store.{Row, Store, counted}
+use Rattle.written.specs.declared.page.Page.{Page}
 
 -- Of a table at most the first 65,535 cells are used.
 abbrev pub limit : List ℕ → ℕ
@@ -25,3 +27,13 @@ store table used words = record { front = take used table; rows = counted (row-a
 -- How many cells are taken.
 abbrev pub taken : (used words : ℕ) → ℕ
 taken used words = used + 4 * words
+
+-- What a page holds, and what a store is with cells more at its front and with a row more.
+unfoldable pub page-store : Page → Store
+page-store p = store (now (p .table)) (p .used) (p .words)
+
+abbrev pub with-cells : Store → List ℕ → Store
+with-cells s xs = record { front = s .front ++ xs; rows = s .rows }
+
+abbrev pub with-row : Store → Row → Store
+with-row s r = record { front = s .front; rows = s .rows ++ (r ∷ []) }
