@@ -1,3 +1,4 @@
+pub mod Grown
 pub mod Renamed
 pub mod Fronts
 pub mod Blocks
