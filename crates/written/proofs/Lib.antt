@@ -1,7 +1,9 @@
-pub mod Renamed
-pub mod Fronts
 pub mod Blocks
+pub mod Found
+pub mod Fronts
+pub mod Grown
 pub mod Known
-pub mod Names
 pub mod Lines
+pub mod Names
+pub mod Renamed
 pub mod Stored

@@ -1,3 +1,5 @@
+pub mod Kept
 pub mod Matching
 pub mod Model
+pub mod Pages
 pub mod Store

@@ -46,6 +46,11 @@ unfoldable pub number-of : List Named → Name → ℕ
 number-of [] n = 0
 number-of (m ∷ ms) n = cond (same (m .name) n) (m .number) (number-of ms n)
 
+-- The number of a name that is among them.
+unfoldable pub lookup : List Named → Name → Option ℕ
+lookup [] n = None
+lookup (m ∷ ms) n = cond (same (m .name) n) (Some (m .number)) (lookup ms n)
+
 unfoldable pub name-of : List Named → ℕ → Option Name
 name-of [] k = None
 name-of (m ∷ ms) k = cond (eqb (m .number) k) (Some (m .name)) (name-of ms k)

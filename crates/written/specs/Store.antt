@@ -73,6 +73,9 @@ model s = record { entries = map (entry-of (s .front)) (s .rows); names = names-
 abbrev pub Whole-name : List ℕ → ℕ → Type 0
 Whole-name front p = (p + 2 ≤ length front) × (cell front p ≡ MARK) × (p + 2 + cell front (p + 1) ≤ length front)
 
+abbrev pub Whole-names : List ℕ → Type 0
+Whole-names front = (p : ℕ) → cell front p ≡ MARK → Whole-name front p
+
 abbrev pub Whole-disjunct : List ℕ → ℕ → Type 0
 Whole-disjunct front a =
     (cell front a ≤ 8) × (cell front (a + 1) ≤ 8) × (cell front (a + 2) + cell front a + cell front (a + 1) ≤ length front)
@@ -92,7 +95,7 @@ no-row = record { word = 0; length-of = 0; block = 0 }
 abbrev pub Whole : Store → Type 0
 Whole s =
     ((w : ℕ) → w < length (s .rows) → Whole-row (s .front) (getD (s .rows) w no-row))
-    × ((p : ℕ) → cell (s .front) p ≡ MARK → Whole-name (s .front) p)
+    × Whole-names (s .front)
     × ((p q : ℕ) → cell (s .front) p ≡ MARK → cell (s .front) q ≡ MARK → name-at (s .front) p ≡ name-at (s .front) q → p ≡ q)
     × ((i : ℕ) → cell (s .front) i < 2 ^ 16)
 

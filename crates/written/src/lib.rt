@@ -1,3 +1,10 @@
 //! Written dictionaries: lines are taken into a draft over lent memory, and closing makes it a dictionary.
+//!
+//! - `page`: the lent table, and writing to it.
+//! - `cells`: what is read from a table.
+//! - `draft`, `closed`: a draft, and the dictionary that closing makes of it.
 
-pub fn one() -> u8 { 1 }
+mod cells;
+pub mod closed;
+pub mod draft;
+pub mod page;
