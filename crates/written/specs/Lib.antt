@@ -1,3 +1,4 @@
+pub mod Lines
 pub mod Matching
 pub mod Model
 pub mod Store
