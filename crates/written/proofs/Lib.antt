@@ -5,3 +5,4 @@ pub mod Known
 pub mod Names
 pub mod Lines
 pub mod Stored
+pub mod Cuts

@@ -20,6 +20,10 @@ unfoldable pub pieces : (mark : ℕ) → List ℕ → List (List ℕ)
 pieces m [] = [] ∷ []
 pieces m (b ∷ bs) = cond (eqb b m) ([] ∷ pieces m bs) (onto b (pieces m bs))
 
+-- The pieces that begin at a place or behind it. A piece may begin where the bytes end; past that there is none.
+unfoldable pub pieces-from : (mark : ℕ) → List ℕ → ℕ → List (List ℕ)
+pieces-from m bs a = cond (leb a (length bs)) (pieces m (drop a bs)) []
+
 -- A text cut at its line feeds; an empty rest at its end is no line.
 unfoldable pub lines : List ℕ → List (List ℕ)
 lines [] = []
@@ -54,3 +58,8 @@ good-line line = ltb (tab-place line) (length line) && every good-word (line-wor
 unfoldable pub any-known : (known words : List (List ℕ)) → Bool
 any-known known [] = false
 any-known known (w ∷ ws) = among w known || any-known (known ++ (w ∷ [])) ws
+
+-- Some of the words is known.
+unfoldable pub some-among : (known words : List (List ℕ)) → Bool
+some-among known [] = false
+some-among known (w ∷ ws) = among w known || some-among known ws

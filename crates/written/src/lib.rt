@@ -1,3 +1,5 @@
 //! Written dictionaries: lines are taken into a draft over lent memory, and closing makes it a dictionary.
+//!
+//! - `pieces`: where the pieces of some bytes end that are cut at a mark.
 
-pub fn one() -> u8 { 1 }
+pub mod pieces;
