@@ -7,3 +7,4 @@ pub mod Lines
 pub mod Names
 pub mod Renamed
 pub mod Stored
+pub mod Cuts

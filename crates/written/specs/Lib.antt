@@ -1,4 +1,5 @@
 pub mod Kept
+pub mod Lines
 pub mod Matching
 pub mod Model
 pub mod Pages

@@ -1,5 +1,6 @@
 //! Written dictionaries: lines are taken into a draft over lent memory, and closing makes it a dictionary.
 //!
+//! - `pieces`: where the pieces of some bytes end that are cut at a mark.
 //! - `page`: the lent table, and writing to it.
 //! - `cells`: what is read from a table.
 //! - `draft`, `closed`: a draft, and the dictionary that closing makes of it.
@@ -8,3 +9,4 @@ mod cells;
 pub mod closed;
 pub mod draft;
 pub mod page;
+pub mod pieces;
