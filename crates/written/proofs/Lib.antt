@@ -1,10 +1,12 @@
 pub mod Blocks
+pub mod Cuts
 pub mod Found
 pub mod Fronts
 pub mod Grown
 pub mod Known
 pub mod Lines
 pub mod Names
+pub mod Noted
 pub mod Renamed
 pub mod Stored
-pub mod Cuts
+pub mod Words

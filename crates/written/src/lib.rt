@@ -8,5 +8,8 @@
 mod cells;
 pub mod closed;
 pub mod draft;
+mod fresh;
+pub mod line;
+mod note;
 pub mod page;
 pub mod pieces;
