@@ -1,6 +1,7 @@
 //! Formulas: from the bytes that a curator writes to the disjuncts that they mean, or to the first fault.
 //!
 //! - `token`, `cut`: the tokens, each a part of the formula.
+//! - `name`: the name that stands at a place of the formula.
 //! - `names`, `way`, `listing`, `ways`: the ways of a formula, in tables as large as a line may fill.
 //! - `make`: the ways of each kind of item, and of items that are joined.
 //! - `fault`: a refusal with its place in the formula.
@@ -9,6 +10,7 @@ pub mod cut;
 pub mod fault;
 pub mod listing;
 pub mod make;
+pub mod name;
 pub mod names;
 pub mod token;
 pub mod way;
