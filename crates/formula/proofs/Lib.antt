@@ -1,4 +1,5 @@
 pub mod Grammar
+pub mod Kept
 pub mod Lays
 pub mod Places
 pub mod Tables

@@ -13,6 +13,8 @@ use Rattle.formula.specs.declared.names.Names.{Names}
 use Rattle.formula.specs.declared.way.Half.{Half}
 use Rattle.formula.specs.declared.way.Half.the-variants as half-list
 use Rattle.formula.specs.declared.way.Way.{Way}
+use Rattle.formula.specs.declared.way.Disjunct.{Disjunct as Kept}
+use Rattle.formula.specs.declared.disjuncts.Disjuncts.{Disjuncts}
 use Rattle.formula.specs.declared.listing.Listing.{Listing}
 use Rattle.formula.specs.declared.ways.Ways.{Ways}
 use Rattle.formula.specs.declared.ways.Ways.the-variants as all-ways
@@ -62,3 +64,10 @@ table formula l = map (shown formula) (items-of l)
 abbrev pub Shows : List ℕ → Ways → List (Disjunct Name) → Type 0
 Shows formula (all-ways.Listed l) ds = (0 < length ds) × (table formula l ≡ map clip ds)
 Shows formula all-ways.Many ds = 64 < length ds
+
+-- The disjuncts that the program's table of them holds.
+abbrev pub disjunct-of : List ℕ → Kept → Disjunct Name
+disjunct-of formula d = record { left = names-of formula (d .left); right = names-of formula (d .right) }
+
+abbrev pub disjuncts-of : List ℕ → Disjuncts → List (Disjunct Name)
+disjuncts-of formula t = map (disjunct-of formula) (take (t .len) (t .items))

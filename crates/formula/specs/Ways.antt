@@ -1,12 +1,18 @@
 -- What a formula means: its ways, in order, and the disjuncts that are kept of them.
 use mathlib.Core.Bool.{Bool, true, false, cond, _&&_, _||_}
 use mathlib.Core.List.{List, [], _∷_, _++_, map}
-use Prim.Native.Nat.{ℕ}
-use lib.Dec.{eqb, leb}
+use mathlib.Core.Path.{_≡_, refl}
+use lib.Dec.{ltb}
 use lib.ListN.{length}
+use Rattle.std.specs.Iters.{folded}
+use Rattle.std.specs.declared.result.Result.{Result}
+use Rattle.std.specs.declared.result.Result.the-variants.{Ok, Err}
+use Rattle.std.specs.shelf.Text.{sameBytes}
 use Rattle.lexicon.specs.Lexicon.{Disjunct, free}
 use Rattle.lexicon.specs.declared.side.Side.{Side}
 use Rattle.lexicon.specs.declared.side.Side.the-variants.{Left, Right}
+use Rattle.refusal.specs.declared.Refusal.{Refusal}
+use Rattle.refusal.specs.declared.Refusal.the-variants.{ManyWays, LongList}
 use Rattle.formula.specs.declared.token.Join.{Join}
 use Rattle.formula.specs.declared.token.Join.the-variants.{And, Or}
 use Rattle.formula.specs.declared.token.Bracket.{Bracket}
@@ -53,3 +59,42 @@ unfoldable mutual
   pub row-ways : Join → Items → List Way
   row-ways j (first i) = item-ways i
   row-ways j (then is i) = joined j (row-ways j is) (item-ways i)
+
+-- Two ways are the same where their lists have the same names in the same order.
+abbrev pub same-names : List Name → List Name → Bool
+same-names [] [] = true
+same-names [] (n ∷ m) = false
+same-names (n ∷ l) [] = false
+same-names (n ∷ l) (k ∷ m) = sameBytes n k && same-names l m
+
+abbrev pub same-way : Way → Way → Bool
+same-way d e = same-names (d .left) (e .left) && same-names (d .right) (e .right)
+
+unfoldable pub there : Way → List Way → Bool
+there d [] = false
+there d (e ∷ es) = same-way d e || there d es
+
+-- A way is kept unless an equal one is there already.
+abbrev pub keep : List Way → Way → List Way
+keep out d = cond (there d out) out (out ++ (d ∷ []))
+
+-- Each way in turn: of equal ones only the first is kept.
+abbrev pub kept : List Way → List Way
+kept ds = folded keep [] ds
+
+kept-once : kept (asking Left (65 ∷ []) ∷ free ∷ asking Left (65 ∷ []) ∷ asking Right (65 ∷ []) ∷ []) ≡
+    asking Left (65 ∷ []) ∷ free ∷ asking Right (65 ∷ []) ∷ []
+unfolding there
+kept-once = refl
+
+-- A way with a list of more than 8 connectors.
+abbrev pub long : Way → Bool
+long d = ltb 8 (length (d .left)) || ltb 8 (length (d .right))
+
+unfoldable pub some-long : List Way → Bool
+some-long [] = false
+some-long (d ∷ ds) = long d || some-long ds
+
+-- The disjuncts of a formula that has some ways, which are counted before equal ones are left out.
+abbrev pub fitted : List Way → Result (List Way) Refusal
+fitted ds = cond (ltb 64 (length ds)) (Err ManyWays) (cond (some-long ds) (Err LongList) (Ok (kept ds)))

@@ -4,10 +4,14 @@
 //! - `name`: the name that stands at a place of the formula.
 //! - `names`, `way`, `listing`, `ways`: the ways of a formula, in tables as large as a line may fill.
 //! - `make`: the ways of each kind of item, and of items that are joined.
+//! - `disjuncts`: the disjuncts of a formula, in such a table.
+//! - `keep`: from the ways to the disjuncts, each kept once.
 //! - `fault`: a refusal with its place in the formula.
 
 pub mod cut;
+pub mod disjuncts;
 pub mod fault;
+pub mod keep;
 pub mod listing;
 pub mod make;
 pub mod name;

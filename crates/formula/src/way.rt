@@ -13,3 +13,10 @@ pub struct Way {
     pub left: Half,
     pub right: Half,
 }
+
+/// A way of which both lists are short enough.
+#[derive(Clone, Copy)]
+pub struct Disjunct {
+    pub left: Names,
+    pub right: Names,
+}
