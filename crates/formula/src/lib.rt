@@ -8,8 +8,6 @@
 //! - `disjuncts`: the disjuncts of a formula, in such a table.
 //! - `keep`: from the ways to the disjuncts, each kept once.
 //! - `meaning`: all of it, from bytes to disjuncts.
-//! - `disjuncts`: the disjuncts of a formula, in such a table.
-//! - `keep`: from the ways to the disjuncts, each kept once.
 //! - `fault`: a refusal with its place in the formula.
 
 pub mod cut;

@@ -86,8 +86,9 @@ pub(crate) fn fresh_names(cells: &[u16], used: usize, formula: &[u8], disjuncts:
 {
     let mut fresh = no_names();
     for k in 0..disjuncts.len {
-        note_list(cells, used, formula, &mut fresh, &disjuncts.items[k].left);
-        note_list(cells, used, formula, &mut fresh, &disjuncts.items[k].right);
+        let one = disjuncts.items[k];
+        note_list(cells, used, formula, &mut fresh, &one.left);
+        note_list(cells, used, formula, &mut fresh, &one.right);
     }
     fresh
 }
