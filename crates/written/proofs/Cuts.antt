@@ -12,8 +12,9 @@
 -- Its invariant says what is left to do with `pieces-from mark bytes from`. At the start that is all pieces (`pieces-first`);
 -- a turn takes the first of them off, as `piece_end` ensures by its clause `cuts`; and after the loop there is none left
 -- (`pieces-none`).
-use mathlib.Core.Bool.{true, false, cond}
+use mathlib.Core.Bool.{cond}
 use mathlib.Core.List.{List, [], _∷_, _++_}
+use mathlib.Core.Logic.{⊎-elim}
 use mathlib.Core.Path.{_≡_, refl, sym, ap, _∙_}
 use Prim.Native.Nat.{ℕ, suc, _+_, _-_, _<_, _≤_}
 use native.Mathlib.Omega.{arith}
@@ -25,7 +26,6 @@ use Rattle.std.proofs.shelf.Edits.{getD-between, length-between}
 use Rattle.std.proofs.shelf.Lists.{drop-more, drop-all}
 use Rattle.std.proofs.shelf.Parts.{between-to-end}
 use Rattle.std.proofs.shelf.Tests.{eq-eqb, ne-eqb, le-leb, lt-leb, cond-true, cond-false, cases-lt}
-use mathlib.Core.Logic.{⊎-elim}
 use Rattle.written.specs.Lines.{onto, pieces, pieces-from, lines}
 
 -- Bytes among which no mark stands, and such bytes from one place to another.
@@ -44,7 +44,7 @@ clear-between m xs a e l h k i q =
 
 -- What cuts bytes at each mark, whatever it makes of no bytes.
 module _ (m : ℕ) (F : List ℕ → List (List ℕ))
-  (step : (b : ℕ) (bs : List ℕ) → F (b ∷ bs) ≡ cond (eqb b m) ([] ∷ F bs) (onto b (F bs))) where
+    (step : (b : ℕ) (bs : List ℕ) → F (b ∷ bs) ≡ cond (eqb b m) ([] ∷ F bs) (onto b (F bs))) where
   no-mark : (b : ℕ) (bs : List ℕ) → (b ≡ m → ⊥) → F (b ∷ bs) ≡ onto b (F bs)
   no-mark b bs h = step b bs ∙ cond-false (eqb b m) ([] ∷ F bs) (onto b (F bs)) (ne-eqb b m h)
 
@@ -59,8 +59,8 @@ module _ (m : ℕ) (F : List ℕ → List (List ℕ))
       let p : a + (e - a) ≡ e = omega arith in
       let l′ : e ≤ length xs = omega arith in
       let d : drop (e - a) (drop a xs) ≡ m ∷ drop (e + 1) xs =
-          drop-drop (e - a) a xs
-          ∙ (ap (λ n. drop n xs) p ∙ (drop-more xs e 0 l ∙ ap (λ (v : ℕ). v ∷ drop (e + 1) xs) s)) in
+      drop-drop (e - a) a xs
+      ∙ (ap (λ n. drop n xs) p ∙ (drop-more xs e 0 l ∙ ap (λ (v : ℕ). v ∷ drop (e + 1) xs) s)) in
       ap F (sym (take-append-drop (e - a) (drop a xs)) ∙ ap (_++_ (between a e xs)) d)
       ∙ cut (between a e xs) (drop (e + 1) xs) (clear-between m xs a e l′ c)
 
@@ -97,7 +97,7 @@ within m xs a h = cond-true (leb a (length xs)) (pieces m (drop a xs)) [] (le-le
 
 -- The piece from a place on ends at the next mark, or with the bytes.
 module _ (m : ℕ) (xs : List ℕ) (a e : ℕ) (from : a ≤ e) (to : e ≤ length xs) (clear : Clear-in m xs a e)
-  (stops : e < length xs → getD xs e 0 ≡ m) where
+    (stops : e < length xs → getD xs e 0 ≡ m) where
   empty-last : length xs ≤ a → pieces m (drop a xs) ≡ between a e xs ∷ []
   unfolding pieces
   empty-last h =
@@ -120,15 +120,15 @@ module _ (m : ℕ) (xs : List ℕ) (a e : ℕ) (from : a ≤ e) (to : e ≤ leng
       within m xs a l
       ∙ ⊎-elim
       (λ h. let k : e + 1 ≤ length xs = omega arith in
-        piece-next h ∙ ap (λ ps. between a e xs ∷ ps) (sym (within m xs (e + 1) k)))
+      piece-next h ∙ ap (λ ps. between a e xs ∷ ps) (sym (within m xs (e + 1) k)))
       (λ h. let k : length xs < e + 1 = omega arith in
-        let q : e ≡ length xs = omega arith in
-        piece-last q ∙ ap (λ ps. between a e xs ∷ ps) (sym (pieces-none m xs (e + 1) k)))
+      let q : e ≡ length xs = omega arith in
+      piece-last q ∙ ap (λ ps. between a e xs ∷ ps) (sym (pieces-none m xs (e + 1) k)))
       (cases-lt e (length xs))
 
 -- The same of the lines of a text.
 module _ (xs : List ℕ) (a e : ℕ) (some : a < length xs) (from : a ≤ e) (to : e ≤ length xs) (clear : Clear-in 10 xs a e)
-  (stops : e < length xs → getD xs e 0 ≡ 10) where
+    (stops : e < length xs → getD xs e 0 ≡ 10) where
   line-last : e ≡ length xs → lines (drop a xs) ≡ between a e xs ∷ lines (drop (e + 1) xs)
   unfolding lines
   line-last q =

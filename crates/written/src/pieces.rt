@@ -13,9 +13,10 @@ pub fn piece_end(bytes: &[u8], from: usize, mark: u8) -> usize
     ensures stops { λ r. ⌜ (r < length (now (bytes .entry)) → getD (now (bytes .entry)) r 0 ≡ mark) ⌝ }
     ensures cuts { λ r. ⌜ pieces-from mark (now (bytes .entry)) from ≡ between from r (now (bytes .entry)) ∷ pieces-from mark (now (bytes .entry)) (r + 1) ⌝ }
 {
-    let mut i = from;
-    while i < bytes.len() && bytes[i] != mark {
-        i += 1;
+    for i in from..bytes.len() {
+        if bytes[i] == mark {
+            return i;
+        }
     }
-    i
+    bytes.len()
 }
