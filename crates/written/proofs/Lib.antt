@@ -6,3 +6,4 @@ pub mod Names
 pub mod Lines
 pub mod Stored
 pub mod Cuts
+pub mod Words

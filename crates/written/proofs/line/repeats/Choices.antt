@@ -1,0 +1,12 @@
+use mathlib.Core.List.{[]}
+use mathlib.Core.Path.{_≡_}
+use Prim.Native.Nat.{_+_, _-_}
+use lib.ListN.{length}
+use Rattle.written.specs.Lines.{pieces, pieces-from, any-known}
+use Rattle.written.proofs.line.repeats.Given as given
+
+abbrev pub Inv-loop-from : given.InvT-loop-from
+Inv-loop-from l = any-known [] (pieces-from 32 (l .words) (l .from)) ≡ any-known [] (pieces 32 (l .words))
+
+abbrev pub μ-loop-from : given.MeasureT-loop-from
+μ-loop-from l = length (l .words) + 1 - l .from
