@@ -11,19 +11,24 @@
 --
 -- Its invariant says what is left to do with `pieces-from mark bytes from`. At the start that is all pieces (`pieces-first`);
 -- a turn takes the first of them off, as `piece_end` ensures by its clause `cuts`; and after the loop there is none left
--- (`pieces-none`).
+-- (`pieces-none`). For a result `F` of the pieces the invariant is `F (pieces-from mark bytes from) ≡ F (pieces mark bytes)`,
+-- or the same with what was gathered so far; `ap F` of the three facts then steps it.
+--
+-- A loop over the lines of a text is the same with the mark 10, `while from < text.len()` and `lines (drop from text)`:
+-- a turn goes by `lines-step`, which takes the first three clauses of `piece_end`, and the end by `lines-none`. Where a
+-- loop counts, so that what is left is `drop k` of all, `one-more` and `none-more` tell of those done, which are `take k`.
 use mathlib.Core.Bool.{cond}
-use mathlib.Core.List.{List, [], _∷_, _++_}
+use mathlib.Core.List.{List, [], _∷_, _++_, append-nil}
 use mathlib.Core.Logic.{⊎-elim}
 use mathlib.Core.Path.{_≡_, refl, sym, ap, _∙_}
 use Prim.Native.Nat.{ℕ, suc, _+_, _-_, _<_, _≤_}
 use native.Mathlib.Omega.{arith}
 use lib.Dec.{eqb, leb}
-use lib.ListN.{length, drop, getD, take-append-drop}
+use lib.ListN.{length, take, drop, getD, take-append-drop, length-drop}
 use lib.Seq.{drop-drop}
 use Rattle.std.specs.Holes.{between}
 use Rattle.std.proofs.shelf.Edits.{getD-between, length-between}
-use Rattle.std.proofs.shelf.Lists.{drop-more, drop-all}
+use Rattle.std.proofs.shelf.Lists.{drop-more, drop-all, take-more}
 use Rattle.std.proofs.shelf.Parts.{between-to-end}
 use Rattle.std.proofs.shelf.Tests.{eq-eqb, ne-eqb, le-leb, lt-leb, cond-true, cond-false, cases-lt}
 use Rattle.written.specs.Lines.{onto, pieces, pieces-from, lines}
@@ -143,3 +148,24 @@ module _ (xs : List ℕ) (a e : ℕ) (some : a < length xs) (from : a ≤ e) (to
   pub lines-step : lines (drop a xs) ≡ between a e xs ∷ lines (drop (e + 1) xs)
   lines-step =
       ⊎-elim line-next (λ h. let q : e ≡ length xs = omega arith in line-last q) (cases-lt e (length xs))
+
+pub lines-none : (xs : List ℕ) (a : ℕ) → length xs ≤ a → lines (drop a xs) ≡ []
+unfolding lines
+lines-none xs a h = ap lines (drop-all a xs h)
+
+-- Of a list of which some were done: one more, and all.
+module _ (ps : List (List ℕ)) (k : ℕ) where
+  pub one-more : (p : List ℕ) (rest : List (List ℕ)) → drop k ps ≡ p ∷ rest →
+      (k < length ps) × (take (k + 1) ps ≡ take k ps ++ (p ∷ [])) × (drop (k + 1) ps ≡ rest)
+  one-more p rest e =
+      let n = ap length e in
+      let m = length-drop k ps in
+      let h : k < length ps = omega arith in
+      let d : drop k ps ≡ getD ps k [] ∷ drop (k + 1) ps = drop-more ps k [] h in
+      let first : getD ps k [] ≡ p = cc in
+      let others : drop (k + 1) ps ≡ rest = cc in
+      (h, take-more ps k [] h ∙ ap (λ (q : List ℕ). take k ps ++ (q ∷ [])) first, others)
+
+  pub none-more : drop k ps ≡ [] → take k ps ≡ ps
+  none-more e =
+      sym (append-nil (take k ps)) ∙ (ap (_++_ (take k ps)) (sym e) ∙ take-append-drop k ps)

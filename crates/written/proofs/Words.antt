@@ -1,4 +1,4 @@
--- The words of a line: which of them stand twice or are known, and how many bytes they have.
+-- The words of a line: which of them stand twice or are known, how many bytes they have, and that they are bytes.
 use mathlib.Core.Bool.{Bool, true, false, not, _||_, _&&_, or-false, or-assoc}
 use mathlib.Core.List.{List, [], _∷_, _++_, append-assoc, append-nil}
 use mathlib.Core.Logic.{⊎-elim}
@@ -7,7 +7,9 @@ use Prim.Native.Nat.{ℕ, zero, suc, _+_, _<_, _≤_}
 use native.Mathlib.Omega.{arith}
 use lib.Dec.{eqb}
 use lib.ListN.{length, getD}
-use Rattle.std.proofs.shelf.Tests.{eqb-true, eqb-false, eq-eqb, ne-eqb, cond-true, cond-false, cond-both, cases-bool}
+use Rattle.std.specs.shelf.Lists.{All}
+use Rattle.std.proofs.shelf.Elements.{all-from-getD}
+use Rattle.std.proofs.shelf.Tests.{eqb-true, eqb-false, eq-eqb, ne-eqb, cond-true, cond-false, cond-both, cases-bool, and-parts}
 use Rattle.formula.specs.Cuts.{run}
 use Rattle.written.specs.Lines.{onto, pieces, every, any-known, some-among}
 use Rattle.written.specs.Matching.{same}
@@ -117,3 +119,36 @@ pieces-some m xs = counted m xs .0
 
 pub bytes-counted : (m : ℕ) (xs : List ℕ) → length (word-cells (pieces m xs)) + length (pieces m xs) ≡ length xs + 1
 bytes-counted m xs = counted m xs .1
+
+-- What holds of all bytes holds of those of the pieces.
+all-onto : (P : ℕ → Type 0) (b : ℕ) (ps : List (List ℕ)) → P b → All (All P) ps → All (All P) (onto b ps)
+all-onto P b [] h hs = ((h, tt), tt)
+all-onto P b (p ∷ ps) h (hp, hs) = ((h, hp), hs)
+
+pub all-pieces : (P : ℕ → Type 0) (m : ℕ) (xs : List ℕ) → All P xs → All (All P) (pieces m xs)
+unfolding pieces
+all-pieces P m [] h = (tt, tt)
+all-pieces P m (x ∷ xs) (h, hs) =
+    cond-both (eqb x m) ([] ∷ pieces m xs) (onto x (pieces m xs)) (All (All P)) (λ _. (tt, all-pieces P m xs hs))
+    (λ _. all-onto P x (pieces m xs) h (all-pieces P m xs hs))
+
+below-256 : (xs : List ℕ) → All (λ b. b < 256) xs → (j : ℕ) → getD xs j 0 < 256
+below-256 [] h j = omega arith
+below-256 (x ∷ xs) (h, hs) zero = h
+below-256 (x ∷ xs) (h, hs) (suc j) = below-256 xs hs j
+
+bytes-at : (ps : List (List ℕ)) → All (All (λ b. b < 256)) ps → (w j : ℕ) → getD (getD ps w []) j 0 < 256
+bytes-at [] h w j = omega arith
+bytes-at (p ∷ ps) (h, hs) zero j = below-256 p h j
+bytes-at (p ∷ ps) (h, hs) (suc w) j = bytes-at ps hs w j
+
+-- Pieces of bytes are of bytes.
+pub pieces-bytes : (m : ℕ) (xs : List ℕ) → ((i : ℕ) → getD xs i 0 < 256) → (w j : ℕ) → getD (getD (pieces m xs) w []) j 0 < 256
+pieces-bytes m xs h =
+    bytes-at (pieces m xs) (all-pieces (λ b. b < 256) m xs (all-from-getD (λ b. b < 256) xs 0 (λ i _. h i)))
+
+pub every-at : (p : List ℕ → Bool) (ws : List (List ℕ)) → every p ws ≡ true → (k : ℕ) → k < length ws → p (getD ws k []) ≡ true
+unfolding every
+every-at p [] h k l = absurd (omega arith)
+every-at p (w ∷ ws) h zero l = and-parts (p w) (every p ws) h .0
+every-at p (w ∷ ws) h (suc k) l = every-at p ws (and-parts (p w) (every p ws) h .1) k (omega arith)

@@ -1,8 +1,10 @@
 //! Written dictionaries: lines are taken into a draft over lent memory, and closing makes it a dictionary.
 //!
 //! - `pieces`: where the pieces of some bytes end that are cut at a mark.
+//! - `line`: a line's words and its formula.
 //! - `page`: the lent table, and writing to it.
 //! - `cells`: what is read from a table.
+//! - `fresh`, `note`: the names that a line brings.
 //! - `draft`, `closed`: a draft, and the dictionary that closing makes of it.
 
 mod cells;
