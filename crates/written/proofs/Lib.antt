@@ -1,5 +1,7 @@
 pub mod Blocks
+pub mod Costs
 pub mod Cuts
+pub mod Finds
 pub mod Found
 pub mod Fronts
 pub mod Grown

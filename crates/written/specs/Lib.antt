@@ -1,4 +1,6 @@
 pub mod Costs
+pub mod Drafts
+pub mod Faults
 pub mod Kept
 pub mod Lines
 pub mod Matching

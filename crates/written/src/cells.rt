@@ -11,7 +11,7 @@ use crate::page::write::LIMIT;
 use crate::page::write::MARK;
 
 /// The number that no word has.
-const NO_WORD: u16 = 65535;
+pub(crate) const NO_WORD: u16 = 65535;
 
 /// Whether some cells hold a row of bytes.
 fn spells(cells: &[u16], at: usize, len: usize, bytes: &[u8]) -> bool

@@ -4,13 +4,19 @@
 //! - `line`: a line's words and its formula.
 //! - `page`: the lent table, and writing to it.
 //! - `cells`: what is read from a table.
+//! - `knows`: whether a table has one of some words.
 //! - `fresh`, `note`: the names that a line brings.
+//! - `cost`: how many cells a line takes.
+//! - `fault`: a refusal with its place in a line.
 //! - `draft`, `closed`: a draft, and the dictionary that closing makes of it.
 
 mod cells;
 pub mod closed;
+mod cost;
 pub mod draft;
+pub mod fault;
 mod fresh;
+mod knows;
 pub mod line;
 mod note;
 pub mod page;
