@@ -1,3 +1,4 @@
+pub mod Agreed
 pub mod Blocks
 pub mod Found
 pub mod Fronts

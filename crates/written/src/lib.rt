@@ -2,9 +2,11 @@
 //!
 //! - `page`: the lent table, and writing to it.
 //! - `cells`: what is read from a table.
+//! - `matching`: which names of connectors match.
 //! - `draft`, `closed`: a draft, and the dictionary that closing makes of it.
 
 mod cells;
 pub mod closed;
 pub mod draft;
+pub mod matching;
 pub mod page;
