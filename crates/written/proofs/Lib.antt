@@ -1,4 +1,5 @@
 pub mod Agreed
+pub mod Asked
 pub mod Blocks
 pub mod Found
 pub mod Fronts

@@ -1,5 +1,6 @@
 pub mod Kept
 pub mod Matching
+pub mod Meaning
 pub mod Model
 pub mod Pages
 pub mod Store
