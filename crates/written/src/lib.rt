@@ -10,3 +10,5 @@ pub mod closed;
 pub mod draft;
 pub mod matching;
 pub mod page;
+#[cfg(test)]
+mod tests;
