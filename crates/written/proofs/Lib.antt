@@ -1,3 +1,5 @@
+pub mod Agreed
+pub mod Asked
 pub mod Blocks
 pub mod Costs
 pub mod Cuts

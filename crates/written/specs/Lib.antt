@@ -4,6 +4,7 @@ pub mod Faults
 pub mod Kept
 pub mod Lines
 pub mod Matching
+pub mod Meaning
 pub mod Model
 pub mod Noted
 pub mod Pages

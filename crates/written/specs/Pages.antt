@@ -1,7 +1,7 @@
 -- What a lent table holds, by how much of its front is written and how many words have rows at its back.
 use denote.Ref.{now}
 use mathlib.Core.List.{List, [], _∷_, _++_}
-use Prim.Native.Nat.{ℕ, min, _+_, _-_, _*_}
+use Prim.Native.Nat.{ℕ, min, _+_, _-_, _*_, _≤_}
 use lib.ListN.{length, take, getD}
 use Rattle.written.specs.Store.{Row, Store, counted}
 use Rattle.written.specs.declared.page.Page.{Page}
@@ -27,6 +27,11 @@ store table used words = record { front = take used table; rows = counted (row-a
 -- How many cells are taken.
 abbrev pub taken : (used words : ℕ) → ℕ
 taken used words = used + 4 * words
+
+-- The three cells of a disjunct that begin at a place, and the connectors that they tell, lie in a table.
+abbrev pub Inside : List ℕ → ℕ → Type 0
+Inside table a =
+    (a + 3 ≤ length table) × (getD table (a + 2) 0 + getD table a 0 + getD table (a + 1) 0 ≤ length table)
 
 -- What a page holds, and what a store is with cells more at its front and with a row more.
 unfoldable pub page-store : Page → Store

@@ -2,7 +2,7 @@ ghost use mathlib.Core.Path.{_≡_};
 ghost use mathlib.Core.Bool.{_&&_};
 ghost use Prim.Native.Nat.{_+_, _*_, _<_, _≤_};
 ghost use lib.Dec.{eqb};
-ghost use lib.ListN.{length, take, drop};
+ghost use lib.ListN.{length, take, drop, getD};
 ghost use Rattle.written.specs.Matching.{same};
 ghost use Rattle.written.specs.Model.{find, lookup};
 ghost use Rattle.written.specs.Pages.{limit, row-place, store, taken};
@@ -80,4 +80,14 @@ pub(crate) fn number(cells: &[u16], used: usize, name: &[u8]) -> Option<u16>
         }
     }
     None
+}
+
+/// The letters of the name whose mark stands at a place.
+pub(crate) fn letters(cells: &[u16], at: usize) -> &[u16]
+    requires { ⌜ at + 2 + getD (now cells) (at + 1) 0 ≤ length (now cells) ⌝ }
+    ensures { λ r. ⌜ now r ≡ take (getD (now (cells .entry)) (at + 1) 0) (drop (at + 2) (now (cells .entry))) ⌝ }
+{
+    let first = at + 2;
+    let len = usize::from(cells[at + 1]);
+    &cells[first..first + len]
 }

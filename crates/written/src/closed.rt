@@ -3,6 +3,8 @@ ghost use Prim.Native.Nat.{_≤_};
 ghost use Rattle.written.specs.Pages.{limit, store, taken};
 ghost use Rattle.written.specs.Store.{Whole};
 
+pub mod ask;
+
 /// A dictionary that is written and closed: it only answers.
 #[derive(Drop)]
 pub struct Written<'t> {

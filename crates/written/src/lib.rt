@@ -3,10 +3,10 @@
 //! - `pieces`: where the pieces of some bytes end that are cut at a mark.
 //! - `line`: a line's words and its formula.
 //! - `page`: the lent table, and writing to it.
-//! - `cells`: what is read from a table.
-//! - `knows`: whether a table has one of some words.
+//! - `cells`, `knows`: what is read from a table.
 //! - `fresh`, `note`: the names that a line brings.
 //! - `cost`: how many cells a line takes.
+//! - `matching`: which names of connectors match.
 //! - `fault`: a refusal with its place in a line.
 //! - `draft`, `closed`: a draft, and the dictionary that closing makes of it.
 
@@ -18,6 +18,9 @@ pub mod fault;
 mod fresh;
 mod knows;
 pub mod line;
+pub mod matching;
 mod note;
 pub mod page;
 pub mod pieces;
+#[cfg(test)]
+mod tests;
