@@ -1,3 +1,4 @@
+pub mod Good
 pub mod Grammar
 pub mod Kept
 pub mod Lays
