@@ -65,7 +65,7 @@ kept-few [] out = omega arith
 kept-few (d ∷ ds) out =
     let h = kept-few ds (keep out d) in
     let k : length (keep out d) ≤ length out + 1 =
-      cond-both (there d out) _ _ (λ l. length l ≤ length out + 1) (λ _. omega arith) (λ _. simp length-append (omega arith)) in
+    cond-both (there d out) _ _ (λ l. length l ≤ length out + 1) (λ _. omega arith) (λ _. simp length-append (omega arith)) in
     omega arith
 
 -- Names of which something holds, wherever they are mentioned.
@@ -250,9 +250,9 @@ pub good-names : (xs : List ℕ) → ((i : ℕ) → getD xs i 0 < 256) → (ds :
 good-names xs h ds e k i s =
     let (f, r, (few, short, is)) = accepted-ok xs ds e in
     let w : All (In-word Named-ok) (tokens f) =
-      in-tokens Named-ok (cut xs) f (subst (Answer (cut xs)) r (answers (cut xs))) (cut-ok 0 0 xs h) in
+    in-tokens Named-ok (cut xs) f (subst (Answer (cut xs)) r (answers (cut xs))) (cut-ok 0 0 xs h) in
     let a : All (Asks Named-ok) ds =
-      subst (All (Asks Named-ok)) (sym is) (kept-all (Asks Named-ok) (ways f) [] tt (in-ways Named-ok f w)) in
+    subst (All (Asks Named-ok)) (sym is) (kept-all (Asks Named-ok) (ways f) [] tt (in-ways Named-ok f w)) in
     let d : Asks Named-ok (getD ds k free) = all-at (Asks Named-ok) ds free (tt, tt) a k in
     all-at Named-ok (side-of (getD ds k free) s) [] (omega arith, λ _. omega arith)
     (asks-side Named-ok (getD ds k free) s d) i

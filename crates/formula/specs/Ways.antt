@@ -2,11 +2,13 @@
 use mathlib.Core.Bool.{Bool, true, false, cond, _&&_, _||_}
 use mathlib.Core.List.{List, [], _∷_, _++_, map}
 use mathlib.Core.Path.{_≡_, refl}
+use Prim.Native.Nat.{ℕ, _<_}
 use lib.Dec.{ltb}
-use lib.ListN.{length}
+use lib.ListN.{length, getD}
 use Rattle.std.specs.Iters.{folded}
 use Rattle.std.specs.declared.result.Result.{Result}
 use Rattle.std.specs.declared.result.Result.the-variants.{Ok, Err}
+use Rattle.std.specs.shelf.Lists.{All, Has}
 use Rattle.std.specs.shelf.Text.{sameBytes}
 use Rattle.lexicon.specs.Lexicon.{Disjunct, free}
 use Rattle.lexicon.specs.declared.side.Side.{Side}
@@ -86,6 +88,14 @@ kept-once : kept (asking Left (65 ∷ []) ∷ free ∷ asking Left (65 ∷ []) �
     asking Left (65 ∷ []) ∷ free ∷ asking Right (65 ∷ []) ∷ []
 unfolding there
 kept-once = refl
+
+-- No two that are kept are equal, each of the ways is among them, and each of them is one of the ways. What is kept of
+-- some ways begins what is kept of them and more, so each stands in order of its first place.
+abbrev pub Kept-once : List Way → Type 0
+Kept-once ds =
+    ((i j : ℕ) → i < length (kept ds) → j < length (kept ds) → getD (kept ds) i free ≡ getD (kept ds) j free → i ≡ j)
+    × (All (Has (kept ds)) ds) × (All (Has ds) (kept ds))
+    × ((es : List Way) → (more : List Way) × (kept (ds ++ es) ≡ kept ds ++ more))
 
 -- A way with a list of more than 8 connectors.
 abbrev pub long : Way → Bool

@@ -16,6 +16,7 @@ use Rattle.formula.specs.Shown.{disjuncts-of}
 use Rattle.formula.specs.Ways.{ways, fitted}
 use Rattle.formula.proofs.Grammar.{right-answer}
 use Rattle.formula.proofs.Lays.{laid}
+use Rattle.formula.proofs.Once.{kept-once}
 use Rattle.formula.proofs.meaning.meaning.Needs as need
 
 -- What is kept of a formula that was read, once a refusal has its place.
@@ -37,7 +38,8 @@ returns-in-Break-ways c =
       means = ap (mapped (disjuncts-of xs) (λ e. e)) (p .1 ∙ ap Err (p .2))
         ∙ sym (ap (λ t. then t (λ g. carried (λ r. fault 0 r) (fitted (ways g)))) (c .in-Break-ways .ensures tt));
       grammar = right-answer xs;
-      bytes = laid xs }
+      bytes = laid xs;
+      kept = kept-once }
 
 pub returns-in-Break-kept : need.returns-in-Break-kept
 returns-in-Break-kept c =
@@ -48,7 +50,8 @@ returns-in-Break-kept c =
       means = ap (mapped (disjuncts-of xs) (λ e. e)) (p .1 ∙ ap Err (p .2) ∙ c .in-Break-kept .ensures tt)
         ∙ placed xs f is (c .disjuncts .result) (c .disjuncts .ensures (ways f) shows);
       grammar = right-answer xs;
-      bytes = laid xs }
+      bytes = laid xs;
+      kept = kept-once }
 
 pub returns : need.returns
 returns c =
@@ -58,4 +61,5 @@ returns c =
       means = ap (mapped (disjuncts-of xs) (λ e. e)) (c .in-Continue-kept .ensures tt)
         ∙ placed xs f is (c .disjuncts .result) (c .disjuncts .ensures (ways f) shows);
       grammar = right-answer xs;
-      bytes = laid xs }
+      bytes = laid xs;
+      kept = kept-once }
