@@ -46,5 +46,5 @@ abbrev pub Matching : Name → Name → Type 0
 Matching a b = (capitals a ≡ capitals b) × ((i : ℕ) → run capital a ≤ i → Agree (getD a i 42) (getD b i 42))
 
 -- Whether two letters at one place of two names let them match, by whether the place is among the capitals.
-abbrev pub fits : Bool → ℕ → ℕ → Bool
-fits among x y = cond among (eqb x y) (agree x y)
+abbrev pub fits : (exact : Bool) → ℕ → ℕ → Bool
+fits exact x y = cond exact (eqb x y) (agree x y)

@@ -1,5 +1,4 @@
 ghost use mathlib.Core.Path.{_≡_};
-ghost use mathlib.Core.Bool.{Bool};
 ghost use Prim.Native.Nat.{_≤_};
 ghost use lib.ListN.{length, take};
 ghost use Rattle.std.specs.Orderings.{Decides};
@@ -30,11 +29,11 @@ fn capital_count(name: &[u16]) -> usize
     name.len()
 }
 
-/// Whether two letters at one place let two names match: capitals are equal, and of others one may be a star.
-fn agree(capital: bool, x: u16, y: u16) -> bool
-    ensures { λ r. ⌜ r ≡ fits capital x y ⌝ }
+/// Whether two letters at one place let two names match: among the capitals they are equal, and elsewhere one may be a star.
+fn agree(exact: bool, x: u16, y: u16) -> bool
+    ensures { λ r. ⌜ r ≡ fits exact x y ⌝ }
 {
-    x == y || !capital && (x == STAR || y == STAR)
+    x == y || !exact && (x == STAR || y == STAR)
 }
 
 /// Whether two names match, by their cells.

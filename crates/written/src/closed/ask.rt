@@ -102,11 +102,7 @@ pub impl<'t> Dictionary for Written<'t> as WrittenDictionary {
 
     fn connector(&self, word: u16, disjunct: usize, side: Side, place: usize) -> u16 {
         let list = self.list(word, disjunct, side);
-        if place < list.len() {
-            list[place]
-        } else {
-            0
-        }
+        if place < list.len() { list[place] } else { 0 }
     }
 
     fn matches(&self, right: u16, left: u16) -> bool {

@@ -10,10 +10,11 @@ pub loop-i-again : need.loop-i-again
 loop-i-again c =
     let xs = c .loop-i .letters in
     let i = c .loop-i .i in
-    let inv = c .loop-i .inv in
-    (length-set xs i (c .from .result) ∙ inv .0,
-     take-more-set xs i (c .from .result) (omega arith)
-     ∙ (ap₂ (λ ys y. ys ++ (y ∷ [])) (inv .1) (c .from .ensures) ∙ sym (take-more (c .args .name .now) i 0 (omega arith))))
+    let inv = c .loop-i .inv in (
+      length-set xs i (c .from .result) ∙ inv .0,
+      take-more-set xs i (c .from .result) (omega arith)
+          ∙ (ap₂ (λ ys y. ys ++ (y ∷ [])) (inv .1) (c .from .ensures) ∙ sym (take-more (c .args .name .now) i 0 (omega arith))),
+    )
 
 pub returns : need.returns
 returns c =
