@@ -3,14 +3,17 @@ pub mod Asked
 pub mod Blocks
 pub mod Costs
 pub mod Cuts
+pub mod Entered
 pub mod Finds
 pub mod Found
 pub mod Fronts
 pub mod Grown
+pub mod Judged
 pub mod Known
 pub mod Lines
 pub mod Names
 pub mod Noted
+pub mod Numbers
 pub mod Renamed
 pub mod Stored
 pub mod Words

@@ -16,15 +16,15 @@ use Rattle.formula.specs.Faults.{carried, then}
 use Rattle.formula.specs.Meaning.{meaning}
 use Rattle.formula.specs.Tokens.{Name}
 use Rattle.formula.specs.Ways.{Way}
-use Rattle.written.specs.declared.closed.Written.{Written}
 use Rattle.written.specs.declared.draft.Draft.{Draft}
 use Rattle.written.specs.declared.fault.LineFault.{LineFault}
+use Rattle.written.specs.declared.page.Page.{Page}
 use Rattle.written.specs.Costs.{line-cost}
 use Rattle.written.specs.Faults.{of-formula, of-line, in-text}
 use Rattle.written.specs.Lines.{any-known, formula-part, good-line, line-words}
-use Rattle.written.specs.Model.{Entry, Model, Named, fresh, mentioned}
-use Rattle.written.specs.Pages.{limit, store, taken}
-use Rattle.written.specs.Store.{model}
+use Rattle.written.specs.Model.{Entry, Named, fresh, mentioned}
+use Rattle.written.specs.Pages.{limit, page-store, store, taken}
+use Rattle.written.specs.Store.{Store, model, names-of}
 
 -- Words with their disjuncts and names, each in the order in which they came, and how many cells they took.
 pub record Book : Type 0 where
@@ -70,21 +70,21 @@ unfoldable pub texted : (limit k : ℕ) → Book → List (List ℕ) → Outcome
 texted lim k b [] = record { book = b; fault = None }
 texted lim k b (l ∷ ls) = next-line k b (lined lim b l) (λ c. texted lim (suc k) c ls)
 
--- A draft's model, its book and the cells that it may use.
-abbrev pub drafted : Draft → Model
-drafted d = model (store (now (d .page .table)) (d .page .used) (d .page .words))
+-- The book of a store that took so many cells; a draft's store, its book, and the cells that it may use.
+abbrev pub book-of : Store → ℕ → Book
+book-of s spent = record { entries = model s .entries; names = names-of s; spent = spent }
 
-abbrev pub names-in : Model → List Name
-names-in m = map (λ (n : Named). n .name) (m .names)
+abbrev pub page-book : Page → Book
+page-book p = book-of (page-store p) (taken (p .used) (p .words))
+
+abbrev pub drafted : Draft → Store
+drafted d = store (now (d .page .table)) (d .page .used) (d .page .words)
 
 abbrev pub book : Draft → Book
-book d = record { entries = drafted d .entries; names = names-in (drafted d); spent = taken (d .page .used) (d .page .words) }
+book d = book-of (drafted d) (taken (d .page .used) (d .page .words))
 
 abbrev pub cells-of : Draft → ℕ
 cells-of d = limit (now (d .page .table))
-
-abbrev pub written : Written → Model
-written w = model (store (now (w .table)) (w .used) (w .words))
 
 -- The new book where a line was accepted, and the refusal where it was not.
 abbrev pub answered : Result Unit LineFault → Book → Result Book LineFault
@@ -94,10 +94,14 @@ answered (Err e) b = Err e
 abbrev pub unnamed : Named
 unnamed = record { name = []; number = 0 }
 
--- Nothing of a draft has changed, and nothing of its table.
-abbrev pub Untouched : Draft → Draft → Type 0
-Untouched d e =
-    (now (e .page .table) ≡ now (d .page .table)) × (e .page .used ≡ d .page .used) × (e .page .words ≡ d .page .words)
+-- Nothing of a page has changed.
+abbrev pub Same-page : Page → Page → Type 0
+Same-page p q = (now (q .table) ≡ now (p .table)) × (q .used ≡ p .used) × (q .words ≡ p .words)
+
+-- Where a line was refused nothing has changed; where it was accepted the names that were there keep their numbers.
+abbrev pub Left-behind : Page → Page → Result Unit LineFault → Type 0
+Left-behind p q (Ok x) = (more : List Named) × (model (page-store q) .names ≡ model (page-store p) .names ++ more)
+Left-behind p q (Err e) = Same-page p q
 
 -- A name has one number, and a number one name.
 abbrev pub One-number : List Named → Type 0

@@ -1,3 +1,5 @@
+pub mod enter;
+pub mod line;
 pub mod read;
 pub mod write;
 

@@ -1,8 +1,8 @@
 ghost use mathlib.Core.Path.{_≡_};
 ghost use Prim.Native.Nat.{_≤_};
-ghost use Rattle.written.specs.Model.{find, lookup};
-ghost use Rattle.written.specs.Pages.{limit, page-store, store, taken};
-ghost use Rattle.written.specs.Store.{Whole, Whole-names, model, names-from};
+ghost use Rattle.written.specs.Model.{find};
+ghost use Rattle.written.specs.Pages.{limit, store, taken};
+ghost use Rattle.written.specs.Store.{Whole, model};
 use crate::cells;
 use crate::page::Page;
 
@@ -15,14 +15,5 @@ impl<'t> Page<'t> {
         ensures { λ r. ⌜ r ≡ find (model (store (now (now (self .entry) .table)) (now (self .entry) .used) (now (self .entry) .words))) (now (word .entry)) ⌝ }
     {
         cells::find(self.table, self.used, self.words, word)
-    }
-
-    /// The number of a name that the front has.
-    pub(crate) fn number(&self, name: &[u8]) -> Option<u16>
-        requires roomy { ⌜ now self .used ≤ limit (now (now self .table)) ⌝ }
-        requires whole { ⌜ Whole-names (page-store (now self) .front) ⌝ }
-        ensures { λ r. ⌜ r ≡ lookup (names-from 0 (page-store (now (self .entry)) .front)) (now (name .entry)) ⌝ }
-    {
-        cells::number(self.table, self.used, name)
     }
 }
