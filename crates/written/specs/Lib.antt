@@ -1,4 +1,5 @@
 pub mod Kept
+pub mod Letters
 pub mod Matching
 pub mod Meaning
 pub mod Model
