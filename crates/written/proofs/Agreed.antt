@@ -1,15 +1,15 @@
 -- Names match when their capitals are equal and their letters agree place by place.
-use mathlib.Core.Bool.{true, false, cond, _&&_, _||_}
-use mathlib.Core.Path.{_≡_, refl, sym, ap, ap₂, subst, _∙_}
+use mathlib.Core.Bool.{true, false, _||_}
+use mathlib.Core.Path.{_≡_, refl, sym, ap, subst, _∙_}
 use mathlib.Core.List.{List, [], _∷_}
-use mathlib.Core.Logic.{_⊎_, inl, inr, ⊎-elim}
+use mathlib.Core.Logic.{inl, inr, ⊎-elim}
 use Prim.Native.Nat.{ℕ, zero, suc, _+_, _-_, _≤_, _<_}
 use native.Mathlib.Omega.{arith}
 use lib.Dec.{eqb, ltb}
-use lib.ListN.{length, take, drop, getD}
+use lib.ListN.{length, take, getD}
 use Rattle.std.specs.Orderings.{Decides}
 use Rattle.std.proofs.shelf.Lists.{ext-getD, getD-default, getD-drop, getD-past, getD-take, length-take-le}
-use Rattle.std.proofs.shelf.Tests.{true≢false, false≢true, and-from, and-parts, cases-bool, cases-lt, eq-eqb, eqb-true, lt-ltb, le-ltb, or-cases, or-left, or-right, cond-both}
+use Rattle.std.proofs.shelf.Tests.{true≢false, and-from, and-parts, cases-bool, cases-lt, eq-eqb, eqb-true, lt-ltb, le-ltb, or-cases, or-left, or-right, cond-both}
 use Rattle.formula.specs.Cuts.{capital, run}
 use Rattle.formula.specs.Tokens.{Name}
 use Rattle.written.specs.Matching.{Agree, Matching, agree, capitals, ending, endings-match, fits, names-match, same}

@@ -3,15 +3,14 @@ use mathlib.Core.Bool.{Bool, true, false, cond, _&&_, _||_}
 use mathlib.Core.Path.{_≡_, refl, sym, ap, ap₂, subst, _∙_}
 use mathlib.Core.List.{List, [], _∷_, map}
 use mathlib.Core.Logic.{⊎-elim}
-use Prim.Native.Nat.{ℕ, zero, suc, _+_, _-_, _≤_, _<_}
+use Prim.Native.Nat.{ℕ, suc, _+_, _≤_, _<_}
 use native.Mathlib.Nat.{add-zero}
 use native.Mathlib.Omega.{arith}
 use lib.Dec.{eqb}
 use lib.ListN.{length, take, drop, getD, length-map}
-use Rattle.std.specs.declared.option.Option.{Option}
 use Rattle.std.specs.declared.option.Option.the-variants.{Some, None}
 use Rattle.std.proofs.shelf.Lists.{getD-take, getD-drop, getD-map, drop-more, drop-all, drop-drop, take-append-drop, length-take-le}
-use Rattle.std.proofs.shelf.Tests.{and-parts, and-cases, cond-true, cond-false, cond-both, cases-bool, true≢false, false≢true, eqb-true, eqb-false, eq-eqb, ne-eqb}
+use Rattle.std.proofs.shelf.Tests.{cond-true, cond-false, cases-bool, true≢false, false≢true, eqb-true, eqb-false, eq-eqb, ne-eqb}
 use Rattle.formula.specs.Tokens.{Name}
 use Rattle.written.specs.Kept.{getD-counted, length-counted}
 use Rattle.written.specs.Matching.{same}
@@ -19,7 +18,7 @@ use Rattle.written.specs.Model.{Entry, Named, among, find-from, lookup, number
 use Rattle.written.specs.Pages.{row-at, row-place, store}
 use Rattle.written.specs.Store.{MARK, Whole, Whole-names, Whole-row, cell, cells, counted, entry-of, model, name-at, names-from, no-row}
 use Rattle.written.proofs.Fronts.{cells-kept}
-use Rattle.written.proofs.Known.{same-eq, eq-same}
+use Rattle.written.proofs.Known.{same-eq}
 
 pub same-false : (a b : List ℕ) → (a ≡ b → ⊥) → same a b ≡ false
 same-false a b n = ⊎-elim (λ t. absurd (n (same-eq a b t))) (λ f. f) (cases-bool (same a b))

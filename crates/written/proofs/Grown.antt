@@ -1,5 +1,5 @@
 -- A page that is written to: a cell behind the front leaves the rows, and a row before the others leaves the front.
-use mathlib.Core.Path.{_≡_, refl, sym, ap, ap₂, _∙_}
+use mathlib.Core.Path.{_≡_, sym, ap, ap₂, _∙_}
 use mathlib.Core.List.{List, [], _∷_, _++_, append-assoc, append-nil}
 use mathlib.Core.Logic.{_≢_}
 use Prim.Native.Nat.{ℕ, zero, suc, min, _+_, _-_, _*_, _≤_, _<_}
@@ -7,7 +7,7 @@ use native.Mathlib.Omega.{arith}
 use lib.ListN.{length, take, set, getD, length-set}
 use Rattle.std.proofs.shelf.Lists.{take-more-set, take-set-le, getD-set-same, getD-set-other}
 use Rattle.written.specs.Pages.{limit, row-place, row-at, store, taken, with-cells, with-row}
-use Rattle.written.specs.Store.{Row, Store, counted}
+use Rattle.written.specs.Store.{Store, counted}
 use Rattle.written.proofs.Renamed.{counted-same}
 
 pub with-cells-none : (s : Store) → s ≡ with-cells s []

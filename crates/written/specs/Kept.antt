@@ -1,9 +1,8 @@
 -- A store keeps the limits of a dictionary: the proofs that a written dictionary hands over with its answers.
-use mathlib.Core.Bool.{true, false}
 use mathlib.Core.List.{List, [], _∷_, map}
 use mathlib.Core.Logic.{⊎-elim, ∥∥₁-elim}
 use mathlib.Core.Path.{_≡_, refl, sym, ap, subst, _∙_}
-use Prim.Native.Nat.{ℕ, zero, suc, _+_, _*_, _≤_, _<_, _^_}
+use Prim.Native.Nat.{ℕ, zero, suc, _+_, _≤_, _<_, _^_}
 use native.Mathlib.Bridge.{le-prop}
 use native.Mathlib.Nat.{ℕ-set}
 use native.Mathlib.Omega.{arith}
@@ -17,7 +16,7 @@ use Rattle.lexicon.specs.Lexicon.{Disjunct, free, side-of}
 use Rattle.lexicon.specs.Limits.{Few-words, None-past, Few-disjuncts, Short-lists, Small-connectors}
 use Rattle.formula.specs.Tokens.{Name}
 use Rattle.written.specs.Matching.{same}
-use Rattle.written.specs.Model.{Entry, Named, lexicon, number-of, renamed, no-entry}
+use Rattle.written.specs.Model.{Entry, lexicon, number-of, renamed, no-entry}
 use Rattle.written.specs.Pages.{limit, taken, store, row-at}
 use Rattle.written.specs.Store.{Store, MARK, Whole, cell, name-at, names-from, numbers-at, third, counted, block-at, entry-of, model, no-row}
 

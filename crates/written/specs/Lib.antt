@@ -3,6 +3,7 @@ pub mod Drafts
 pub mod Faults
 pub mod Kept
 pub mod Lines
+pub mod Letters
 pub mod Matching
 pub mod Meaning
 pub mod Model

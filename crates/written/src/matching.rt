@@ -1,15 +1,48 @@
 ghost use mathlib.Core.Path.{_≡_};
-ghost use Prim.Native.Nat.{_≤_};
-ghost use lib.ListN.{length, take};
+ghost use Prim.Native.Nat.{_<_};
+ghost use lib.ListN.{length, getD};
 ghost use Rattle.std.specs.Orderings.{Decides};
 ghost use Rattle.formula.specs.Cuts.{capital, run};
+ghost use Rattle.written.specs.Letters.{spelled};
 ghost use Rattle.written.specs.Matching.{Matching, fits, names-match};
 
 /// The letter that agrees with every letter.
 const STAR: u16 = 42;
 
-/// A name has at most so many letters.
-const LONGEST: usize = 8;
+/// The letters of a name, as bytes or as cells of a table.
+#[derive(Clone, Copy)]
+pub(crate) enum Letters<'a> {
+    Bytes(&'a [u8]),
+    Cells(&'a [u16]),
+}
+
+fn cell_at(cells: &[u16], place: usize) -> u16
+    requires { ⌜ place < length (now cells) ⌝ }
+    ensures { λ r. ⌜ r ≡ getD (now (cells .entry)) place 0 ⌝ }
+{
+    cells[place]
+}
+
+impl<'a> Letters<'a> {
+    fn len(&self) -> usize
+        ensures { λ r. ⌜ r ≡ length (spelled (now (self .entry))) ⌝ }
+    {
+        match self {
+            Letters::Bytes(bytes) => bytes.len(),
+            Letters::Cells(cells) => cells.len(),
+        }
+    }
+
+    fn at(&self, place: usize) -> u16
+        requires { ⌜ place < length (spelled (now self)) ⌝ }
+        ensures { λ r. ⌜ r ≡ getD (spelled (now (self .entry))) place 0 ⌝ }
+    {
+        match self {
+            Letters::Bytes(bytes) => u16::from(bytes[place]),
+            Letters::Cells(cells) => cell_at(cells, place),
+        }
+    }
+}
 
 fn is_capital(letter: u16) -> bool
     ensures { λ r. ⌜ r ≡ capital letter ⌝ }
@@ -18,15 +51,16 @@ fn is_capital(letter: u16) -> bool
 }
 
 /// How many capitals a name begins with.
-fn capital_count(name: &[u16]) -> usize
-    ensures { λ r. ⌜ r ≡ run capital (now (name .entry)) ⌝ }
+fn capital_count(name: &Letters) -> usize
+    ensures { λ r. ⌜ r ≡ run capital (spelled (now (name .entry))) ⌝ }
 {
-    for (i, letter) in name.iter().enumerate() {
-        if !is_capital(*letter) {
+    let len = name.len();
+    for i in 0..len {
+        if !is_capital(name.at(i)) {
             return i;
         }
     }
-    name.len()
+    len
 }
 
 /// Whether two letters at one place let two names match: among the capitals they are equal, and elsewhere one may be a star.
@@ -36,9 +70,9 @@ fn agree(exact: bool, x: u16, y: u16) -> bool
     x == y || !exact && (x == STAR || y == STAR)
 }
 
-/// Whether two names match, by their cells.
-pub(crate) fn names_match(a: &[u16], b: &[u16]) -> bool
-    ensures { λ r. ⌜ r ≡ names-match (now (a .entry)) (now (b .entry)) ⌝ }
+/// Whether two names match.
+pub(crate) fn names_match(a: &Letters, b: &Letters) -> bool
+    ensures { λ r. ⌜ r ≡ names-match (spelled (now (a .entry))) (spelled (now (b .entry))) ⌝ }
 {
     let capitals = capital_count(a);
     if capital_count(b) != capitals {
@@ -46,33 +80,17 @@ pub(crate) fn names_match(a: &[u16], b: &[u16]) -> bool
     }
     let shared = a.len().min(b.len());
     for i in 0..shared {
-        if !agree(i < capitals, a[i], b[i]) {
+        if !agree(i < capitals, a.at(i), b.at(i)) {
             return false;
         }
     }
     true
 }
 
-/// The letters of a name as cells.
-fn widened(name: &[u8]) -> [u16; LONGEST]
-    requires { ⌜ length (now name) ≤ 8 ⌝ }
-    ensures sized { λ r. ⌜ length r ≡ 8 ⌝ }
-    ensures held { λ r. ⌜ take (length (now (name .entry))) r ≡ now (name .entry) ⌝ }
-{
-    let mut letters = [0; LONGEST];
-    for (i, b) in name.iter().enumerate() {
-        letters[i] = u16::from(*b);
-    }
-    letters
-}
-
-/// Whether two names of connectors, of at most eight letters, match.
+/// Whether two names of connectors match.
 pub fn matching(a: &[u8], b: &[u8]) -> bool
-    requires { ⌜ length (now a) ≤ 8 ⌝ ∗ ⌜ length (now b) ≤ 8 ⌝ }
     ensures value { λ r. ⌜ r ≡ names-match (now (a .entry)) (now (b .entry)) ⌝ }
     ensures law { λ r. ⌜ Decides r (Matching (now (a .entry)) (now (b .entry))) ⌝ }
 {
-    let x = widened(a);
-    let y = widened(b);
-    names_match(&x[..a.len()], &y[..b.len()])
+    names_match(&Letters::Bytes(a), &Letters::Bytes(b))
 }

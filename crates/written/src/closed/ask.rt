@@ -12,6 +12,7 @@ ghost use Rattle.written.specs.Pages.{Inside, row-at};
 ghost use Rattle.written.specs.Store.{cell, model, name-at, numbers-at};
 use crate::cells;
 use crate::closed::Written;
+use crate::matching::Letters;
 use crate::matching::names_match;
 use crate::page::write::MARK;
 use lexicon::dictionary::Dictionary;
@@ -113,6 +114,8 @@ pub impl<'t> Dictionary for Written<'t> as WrittenDictionary {
         if !self.is_name(b) {
             return false;
         }
-        names_match(cells::letters(self.table, a), cells::letters(self.table, b))
+        let a = cells::letters(self.table, a);
+        let b = cells::letters(self.table, b);
+        names_match(&Letters::Cells(a), &Letters::Cells(b))
     }
 }

@@ -1,8 +1,8 @@
-use mathlib.Core.Path.{_≡_, refl}
+use mathlib.Core.Path.{refl}
 use Prim.Native.Nat.{_+_, _-_, _*_}
 use native.Mathlib.Omega.{arith}
 use lib.ListN.{length-set}
-use Rattle.written.specs.Pages.{limit, page-store}
+use Rattle.written.specs.Pages.{page-store}
 use Rattle.written.proofs.Grown.{row-store}
 use Rattle.written.proofs.page.Page.push_row.Needs as need
 

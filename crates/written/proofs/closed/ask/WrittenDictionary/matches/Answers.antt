@@ -24,6 +24,6 @@ returns c =
     let t = c .if-not-is-name .left in
     let u = c .if-not-is-name-2 .left in
     c .names-match .ensures
-    ∙ (ap₂ names-match (c .letters .ensures ∙ sym (p .held t)) (c .letters-2 .ensures ∙ sym (q .held u))
+    ∙ (ap₂ names-match (c .letters-a .ensures ∙ sym (p .held t)) (c .letters-b .ensures ∙ sym (q .held u))
     ∙ names-both (take (w .used) (w .table .now)) (c .args .right) (c .args .left) (c .from-a .result) (c .from-b .result)
     (c .from-a .ensures) (c .from-b .ensures) (sym (p .value) ∙ t) (sym (q .value) ∙ u))
