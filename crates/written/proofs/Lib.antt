@@ -1,3 +1,4 @@
+pub mod Added
 pub mod Blocks
 pub mod Cuts
 pub mod Found
