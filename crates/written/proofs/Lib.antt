@@ -10,4 +10,5 @@ pub mod Names
 pub mod Noted
 pub mod Renamed
 pub mod Stored
+pub mod Worded
 pub mod Words

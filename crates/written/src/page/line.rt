@@ -3,13 +3,15 @@ ghost use mathlib.Core.Path.{_≡_};
 ghost use Prim.Native.Nat.{_+_, _*_, _≤_};
 ghost use lib.ListN.{length, take};
 ghost use Rattle.formula.specs.Shown.{disjuncts-of, names-of};
+ghost use Rattle.written.specs.Lines.{pieces};
 ghost use Rattle.written.specs.Model.{mentioned, number-of};
 ghost use Rattle.written.specs.Noted.{fresh-of};
-ghost use Rattle.written.specs.Pages.{limit, page-store, taken, with-cells};
-ghost use Rattle.written.specs.Store.{Whole-names, all-name-cells, block-cells, connectors, heads, names-from, numbered};
+ghost use Rattle.written.specs.Pages.{limit, page-store, taken, with-cells, with-row};
+ghost use Rattle.written.specs.Store.{Whole-names, all-name-cells, block-cells, connectors, heads, names-from, numbered, word-cells, word-rows};
 use crate::cells::number;
 use crate::fresh::Fresh;
 use crate::page::Page;
+use crate::pieces::piece_end;
 use formula::disjuncts::Disjuncts;
 use formula::name::name_at;
 use formula::names::Names;
@@ -126,5 +128,34 @@ impl<'t> Page<'t> {
         self.push(0);
         self.write_heads(disjuncts, block + 4 + 3 * disjuncts.len);
         self.write_connectors(formula, disjuncts, block);
+    }
+
+    /// Writes a word and its row.
+    fn write_word(&mut self, word: &[u8], block: usize)
+        requires room { ⌜ taken (now self .used) (now self .words) + length (now word) + 4 ≤ limit (now (now self .table)) ⌝ ∗ ⌜ block ≤ now self .used ⌝ }
+        ensures store { λ _. ⌜ page-store (now (self .exit)) ≡ with-row (with-cells (page-store (now (self .entry))) (now (word .entry))) (record { word = now (self .entry) .used; length-of = length (now (word .entry)); block = block }) ⌝ }
+        ensures len { λ _. ⌜ length (now (now (self .exit) .table)) ≡ length (now (now (self .entry) .table)) ⌝ }
+        ensures used { λ _. ⌜ now (self .exit) .used ≡ now (self .entry) .used + length (now (word .entry)) ⌝ }
+        ensures words { λ _. ⌜ now (self .exit) .words ≡ now (self .entry) .words + 1 ⌝ }
+    {
+        let at = self.used;
+        self.push_bytes(word);
+        self.push_row(at as u16, word.len() as u16, block as u16);
+    }
+
+    /// Writes words, parted by single spaces, and their rows.
+    fn write_words(&mut self, words: &[u8], block: usize)
+        requires room { ⌜ taken (now self .used) (now self .words) + length (word-cells (pieces 32 (now words))) + 4 * length (pieces 32 (now words)) ≤ limit (now (now self .table)) ⌝ ∗ ⌜ block ≤ now self .used ⌝ }
+        ensures store { λ _. ⌜ page-store (now (self .exit)) ≡ record { front = page-store (now (self .entry)) .front ++ word-cells (pieces 32 (now (words .entry))); rows = page-store (now (self .entry)) .rows ++ word-rows (now (self .entry) .used) block (pieces 32 (now (words .entry))) } ⌝ }
+        ensures len { λ _. ⌜ length (now (now (self .exit) .table)) ≡ length (now (now (self .entry) .table)) ⌝ }
+        ensures used { λ _. ⌜ now (self .exit) .used ≡ now (self .entry) .used + length (word-cells (pieces 32 (now (words .entry)))) ⌝ }
+        ensures words { λ _. ⌜ now (self .exit) .words ≡ now (self .entry) .words + length (pieces 32 (now (words .entry))) ⌝ }
+    {
+        let mut from = 0;
+        while from <= words.len() {
+            let end = piece_end(words, from, b' ');
+            self.write_word(&words[from..end], block);
+            from = end + 1;
+        }
     }
 }
