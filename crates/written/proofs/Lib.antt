@@ -5,6 +5,7 @@ pub mod Found
 pub mod Fronts
 pub mod Grown
 pub mod Known
+pub mod Lined
 pub mod Lines
 pub mod Names
 pub mod Noted

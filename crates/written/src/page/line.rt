@@ -1,13 +1,14 @@
 ghost use mathlib.Core.List.{[], _∷_, _++_, map};
 ghost use mathlib.Core.Path.{_≡_};
-ghost use Prim.Native.Nat.{_+_, _*_, _≤_};
-ghost use lib.ListN.{length, take};
+ghost use Prim.Native.Nat.{ℕ, _+_, _*_, _≤_};
+ghost use lib.ListN.{length, take, getD};
 ghost use Rattle.formula.specs.Shown.{disjuncts-of, names-of};
+ghost use Rattle.written.specs.Costs.{line-cost};
 ghost use Rattle.written.specs.Lines.{pieces};
-ghost use Rattle.written.specs.Model.{mentioned, number-of};
+ghost use Rattle.written.specs.Model.{fresh as unmet, mentioned, number-of};
 ghost use Rattle.written.specs.Noted.{fresh-of};
 ghost use Rattle.written.specs.Pages.{limit, page-store, taken, with-cells, with-row};
-ghost use Rattle.written.specs.Store.{Whole-names, all-name-cells, block-cells, connectors, heads, names-from, numbered, word-cells, word-rows};
+ghost use Rattle.written.specs.Store.{Whole-names, all-name-cells, block-cells, connectors, heads, names-from, names-of as known-names, numbered, with-line, word-cells, word-rows};
 use crate::cells::number;
 use crate::fresh::Fresh;
 use crate::page::Page;
@@ -157,5 +158,28 @@ impl<'t> Page<'t> {
             self.write_word(&words[from..end], block);
             from = end + 1;
         }
+    }
+
+    /// Writes a line: the names that it brings, the block of its disjuncts, and its words.
+    pub(crate) fn write_line(
+        &mut self,
+        words: &[u8],
+        formula: &[u8],
+        disjuncts: &Disjuncts,
+        fresh: &Fresh,
+    )
+        requires names { ⌜ fresh-of (now formula) (now fresh) ≡ unmet (known-names (page-store (now self))) (mentioned (disjuncts-of (now formula) (now disjuncts))) ⌝ }
+        requires good { ⌜ ((i : ℕ) → length (getD (fresh-of (now formula) (now fresh)) i []) ≤ 8) ⌝ }
+        requires whole { ⌜ Whole-names (page-store (now self) .front) ⌝ }
+        requires room { ⌜ taken (now self .used) (now self .words) + line-cost (pieces 32 (now words)) (disjuncts-of (now formula) (now disjuncts)) (fresh-of (now formula) (now fresh)) ≤ limit (now (now self .table)) ⌝ }
+        ensures store { λ _. ⌜ page-store (now (self .exit)) ≡ with-line (page-store (now (self .entry))) (pieces 32 (now (words .entry))) (disjuncts-of (now (formula .entry)) (now (disjuncts .entry))) ⌝ }
+        ensures len { λ _. ⌜ length (now (now (self .exit) .table)) ≡ length (now (now (self .entry) .table)) ⌝ }
+        ensures taken { λ _. ⌜ taken (now (self .exit) .used) (now (self .exit) .words) ≡ taken (now (self .entry) .used) (now (self .entry) .words) + line-cost (pieces 32 (now (words .entry))) (disjuncts-of (now (formula .entry)) (now (disjuncts .entry))) (fresh-of (now (formula .entry)) (now (fresh .entry))) ⌝ }
+        ensures words { λ _. ⌜ now (self .exit) .words ≡ now (self .entry) .words + length (pieces 32 (now (words .entry))) ⌝ }
+    {
+        self.write_names(formula, fresh);
+        let block = self.used;
+        self.write_block(formula, disjuncts);
+        self.write_words(words, block);
     }
 }
