@@ -1,5 +1,6 @@
 pub mod Agreed
 pub mod Asked
+pub mod Added
 pub mod Blocks
 pub mod Costs
 pub mod Cuts
@@ -10,10 +11,12 @@ pub mod Fronts
 pub mod Grown
 pub mod Judged
 pub mod Known
+pub mod Lined
 pub mod Lines
 pub mod Names
 pub mod Noted
 pub mod Numbers
 pub mod Renamed
 pub mod Stored
+pub mod Worded
 pub mod Words

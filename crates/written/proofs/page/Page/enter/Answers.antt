@@ -112,8 +112,7 @@ write-line-requires c κs =
     in let good = good-fresh ds (c .pre .short) (c .pre .bytes) (page-book (c .args .self .now) .names)
     in record {
       names = c .unmet-fresh .ensures;
-      good = (λ i. subst (λ (ns : List Name). length (getD ns i []) ≤ 8) (sym (c .unmet-fresh .ensures)) (good i .0),
-              λ i j. subst (λ (ns : List Name). getD (getD ns i []) j 0 < 256) (sym (c .unmet-fresh .ensures)) (good i .1 j));
+      good = λ i. subst (λ (ns : List Name). length (getD ns i []) ≤ 8) (sym (c .unmet-fresh .ensures)) (good i .0);
       whole = whole-known (page-store (c .args .self .now)) (c .pre .whole) .1;
       room = omega (arith, c .cost .ensures, c .room .ensures, c .if-cost-room .left) }
 
@@ -128,7 +127,7 @@ returns c =
     in let ds = disjuncts-of xs t
     in let new = known-by b ws false false (c .if-knows .ensures tt) (c .if-repeats .ensures tt)
     in let spent : taken (q .used) (q .words) ≡ with-words b ws ds .spent =
-        c .write-line .ensures .spent ∙ ap (λ ns. taken (p .used) (p .words) + line-cost ws ds ns) (c .unmet-fresh .ensures)
+        c .write-line .ensures .taken ∙ ap (λ ns. taken (p .used) (p .words) + line-cost ws ds ns) (c .unmet-fresh .ensures)
     in let e : c .cost .result ≡ line-cost ws ds (fresh (b .names) (mentioned ds)) = c .cost .ensures ∙ ap (line-cost ws ds) (c .unmet-fresh .ensures)
     in let n = entry-count p
     in let len = c .write-line .ensures .len
