@@ -1,4 +1,5 @@
 ghost use mathlib.Core.Path.{_≡_};
+ghost use lib.ListN.{length};
 ghost use Rattle.formula.specs.Faults.{carried};
 ghost use Rattle.written.specs.Drafts.{Left-behind, One-number, answered, book, cells-of, drafted, empty-book, lined};
 ghost use Rattle.written.specs.Faults.{of-line as of-whole};
@@ -43,6 +44,20 @@ impl<'t> Draft<'t> {
         let parts = of_line(split(line))?;
         let disjuncts = meaning(parts.formula)?;
         self.page.enter(parts.words, parts.formula, &disjuncts)
+    }
+
+    /// How many words the draft has.
+    pub fn words(&self) -> usize
+        ensures { λ r. ⌜ r ≡ length (book (now (self .entry)) .entries) ⌝ }
+    {
+        self.page.words
+    }
+
+    /// How many cells of the table its lines have taken.
+    pub fn spent(&self) -> usize
+        ensures { λ r. ⌜ r ≡ book (now (self .entry)) .spent ⌝ }
+    {
+        self.page.used + 4 * self.page.words
     }
 
     /// The number of a word, or 65,535 where it is not defined.
