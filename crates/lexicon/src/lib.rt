@@ -7,5 +7,3 @@
 pub mod chain;
 pub mod dictionary;
 pub mod side;
-#[cfg(test)]
-mod tests;

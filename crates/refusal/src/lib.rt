@@ -116,5 +116,3 @@ pub impl fmt::Display for Refusal as RefusalDisplay {
     }
 }
 
-#[cfg(test)]
-mod tests;

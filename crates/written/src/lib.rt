@@ -22,5 +22,3 @@ pub mod matching;
 mod note;
 pub mod page;
 pub mod pieces;
-#[cfg(test)]
-mod tests;

@@ -1,5 +1,5 @@
-use crate::matching::matching;
 use std::test::*;
+use written::matching::matching;
 
 #[test]
 fn continues_endings_with_stars() -> Result<(), Fail> {

@@ -1,7 +1,7 @@
-use crate::Refusal;
-use crate::RefusalDisplay;
-use crate::fault::Fault;
-use crate::fault::FaultDisplay;
+use refusal::Refusal;
+use refusal::RefusalDisplay;
+use refusal::fault::Fault;
+use refusal::fault::FaultDisplay;
 use std::test::*;
 
 #[test]

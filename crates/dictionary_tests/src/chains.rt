@@ -1,7 +1,7 @@
-use crate::chain::Chain;
-use crate::chain::ChainDictionary;
-use crate::dictionary::Dictionary;
-use crate::side::Side;
+use lexicon::chain::Chain;
+use lexicon::chain::ChainDictionary;
+use lexicon::dictionary::Dictionary;
+use lexicon::side::Side;
 use refusal::Refusal;
 use refusal::RefusalDebug;
 use std::test::*;
