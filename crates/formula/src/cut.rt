@@ -41,6 +41,13 @@ pub fn run_end(formula: &[u8], at: usize, letter: Letter) -> usize
     i
 }
 
+/// Only spaces are skipped between tokens; every other byte begins a token or is refused.
+fn is_space(b: u8) -> bool
+    ensures { λ r. ⌜ r ≡ eqb b 32 ⌝ }
+{
+    b == b' '
+}
+
 /// The first place from `at` on where no space stands.
 fn skip(formula: &[u8], at: usize) -> usize
     requires { ⌜ at ≤ length (now formula) ⌝ }
@@ -49,7 +56,7 @@ fn skip(formula: &[u8], at: usize) -> usize
     ensures stops { λ r. ⌜ (r < length (now (formula .entry)) → getD (now (formula .entry)) r 0 ≡ 32 → ⊥) ⌝ }
 {
     let mut i = at;
-    while i < formula.len() && formula[i] == b' ' {
+    while i < formula.len() && is_space(formula[i]) {
         i += 1;
     }
     i

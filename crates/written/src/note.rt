@@ -1,3 +1,4 @@
+ghost use mathlib.Core.Bool.{_||_};
 ghost use mathlib.Core.List.{List, [], _∷_, _++_};
 ghost use mathlib.Core.Path.{_≡_};
 ghost use Prim.Native.Nat.{ℕ, _+_, _<_, _≤_};
@@ -42,13 +43,22 @@ fn noted(formula: &[u8], fresh: &Fresh, name: &[u8]) -> bool
     false
 }
 
+/// Whether the table has a name.
+fn in_table(cells: &[u16], used: usize, name: &[u8]) -> bool
+    requires roomy { ⌜ used ≤ limit (now cells) ⌝ }
+    requires whole { ⌜ Whole-names (take used (now cells)) ⌝ }
+    ensures { λ r. ⌜ r ≡ among (now (name .entry)) (known (now (cells .entry)) used) ⌝ }
+{
+    number(cells, used, name).is_some()
+}
+
 /// Whether the table has a name or it was noted before.
 fn met(cells: &[u16], used: usize, formula: &[u8], fresh: &Fresh, name: &[u8]) -> bool
     requires roomy { ⌜ used ≤ limit (now cells) ⌝ }
     requires whole { ⌜ Whole-names (take used (now cells)) ⌝ }
-    ensures { λ r. ⌜ r ≡ among (now (name .entry)) (known (now (cells .entry)) used ++ fresh-of (now (formula .entry)) (now (fresh .entry))) ⌝ }
+    ensures { λ r. ⌜ r ≡ (among (now (name .entry)) (known (now (cells .entry)) used) || among (now (name .entry)) (fresh-of (now (formula .entry)) (now (fresh .entry)))) ⌝ }
 {
-    if number(cells, used, name).is_some() {
+    if in_table(cells, used, name) {
         return true;
     }
     noted(formula, fresh, name)
