@@ -12,14 +12,32 @@ fn shows(heap: Global, formula: &[u8], expected: &str) -> Result<bool, AllocErro
 fn orders_ways(rt: LibcRuntime) -> Result<(), Fail> {
     let heap = rt.alloc();
     check(shows(heap, b"{A-} & D- & (O- or S+)", "A D O|;A D|S;D O|;D|S;")?)?;
-    check(shows(heap, b"(A- or ()) & D- & (B+ or ()) & (O- or S+)", "A D O|B;A D|B S;A D O|;A D|S;D O|B;D|B S;D O|;D|S;")?)
+    check(
+        shows(
+            heap,
+            b"(A- or ()) & D- & (B+ or ()) & (O- or S+)",
+            "A D O|B;A D|B S;A D O|;A D|S;D O|B;D|B S;D O|;D|S;",
+        )?,
+    )
 }
 
 #[test]
 fn keeps_equal_disjuncts_once(rt: LibcRuntime) -> Result<(), Fail> {
     let heap = rt.alloc();
-    check(shows(heap, b"{A+} & {A+} & {A+} & {A+} & {A+} & {A+}", "|A A A A A A;|A A A A A;|A A A A;|A A A;|A A;|A;|;")?)?;
-    check(shows(heap, b"{A+} & {A+} & {A+} & {A+} & {A+} & {A+} & {A+}", "16 at 0")?)?;
+    check(
+        shows(
+            heap,
+            b"{A+} & {A+} & {A+} & {A+} & {A+} & {A+}",
+            "|A A A A A A;|A A A A A;|A A A A;|A A A;|A A;|A;|;",
+        )?,
+    )?;
+    check(
+        shows(
+            heap,
+            b"{A+} & {A+} & {A+} & {A+} & {A+} & {A+} & {A+}",
+            "16 at 0",
+        )?,
+    )?;
     check(shows(heap, b"{()} or B- or ()", "|;B|;")?)
 }
 
@@ -49,6 +67,12 @@ fn bounds_lists_and_ways(rt: LibcRuntime) -> Result<(), Fail> {
     let heap = rt.alloc();
     check(shows(heap, b"A+&A+&A+&A+&A+&A+&A+&A+", "|A A A A A A A A;")?)?;
     check(shows(heap, b"A+&A+&A+&A+&A+&A+&A+&A+&A+", "17 at 0")?)?;
-    check(shows(heap, b"{A+}&{A+}&{A+}&{A+}&{A+}&(A+ or B+)&(C+)&(D+)&(E+)", "17 at 0")?)?;
+    check(
+        shows(
+            heap,
+            b"{A+}&{A+}&{A+}&{A+}&{A+}&(A+ or B+)&(C+)&(D+)&(E+)",
+            "17 at 0",
+        )?,
+    )?;
     check(shows(heap, b"({A+}&{A+}&{A+}&{A+}&{A+}&{A+}) or A+", "16 at 0")?)
 }

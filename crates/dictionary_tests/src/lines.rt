@@ -2,11 +2,11 @@ use crate::shown;
 use lexicon::chain::Chain;
 use lexicon::dictionary::Dictionary;
 use lexicon::side::Side;
+use refusal::fault::FaultDebug;
 use std::alloc::AllocError;
 use std::alloc::Global;
 use std::test::*;
 use written::closed::ask::WrittenDictionary;
-use refusal::fault::FaultDebug;
 use written::draft::Draft;
 use written::fault::LineFaultDebug;
 
@@ -40,7 +40,10 @@ fn takes_as_many_cells_as_listed(rt: LibcRuntime) -> Result<(), Fail> {
     let mut draft = Draft::new(&mut table);
     draft.line(b"a b\tA+")?;
     check(draft.spent() == 21 && draft.words() == 2)?;
-    check_eq(shown::line(heap, draft.line(b"c b\tA+"))?.as_str(), "18 at 0")?;
+    check_eq(
+        shown::line(heap, draft.line(b"c b\tA+"))?.as_str(),
+        "18 at 0",
+    )?;
     check(draft.spent() == 21 && draft.words() == 2)?;
     draft.line(b"c\tA- or B+")?;
     check(draft.spent() == 21 + 4 + 5 + 6 + 3 + 2)
@@ -60,7 +63,10 @@ fn answers_what_was_written(rt: LibcRuntime) -> Result<(), Fail> {
     let right = closed.connector(0, 0, Side::Right, 0);
     let left = closed.connector(1, 0, Side::Left, 1);
     check(closed.matches(right, left) && right == left)?;
-    check(closed.matches(closed.connector(1, 3, Side::Right, 0), closed.connector(3, 0, Side::Left, 0)))?;
+    check(closed.matches(
+        closed.connector(1, 3, Side::Right, 0),
+        closed.connector(3, 0, Side::Left, 0),
+    ))?;
     check(!closed.matches(right, closed.connector(3, 0, Side::Left, 0)))?;
     check(!closed.matches(right, 1))
 }
@@ -91,8 +97,14 @@ fn bounds_words(rt: LibcRuntime) -> Result<(), Fail> {
         draft.line(&line)?;
     }
     check(draft.words() == 256)?;
-    check_eq(shown::line(heap, draft.line(b"more\tA+"))?.as_str(), "19 at 0")?;
-    check_eq(shown::line(heap, draft.line(b"aa\tA+"))?.as_str(), "18 at 0")
+    check_eq(
+        shown::line(heap, draft.line(b"more\tA+"))?.as_str(),
+        "19 at 0",
+    )?;
+    check_eq(
+        shown::line(heap, draft.line(b"aa\tA+"))?.as_str(),
+        "18 at 0",
+    )
 }
 
 #[test]

@@ -73,7 +73,7 @@ there-more xs d t i w b h e =
     let n = length-disjuncts xs t
     in at-drop-more (there d) (disjuncts-of xs t) i free (omega arith)
     ∙ ap (λ v. same-way d v || there d (drop (i + 1) (disjuncts-of xs t)))
-      (read-at (disjunct-of xs) (t .items) (t .len) i w free h (omega arith))
+    (read-at (disjunct-of xs) (t .items) (t .len) i w free h (omega arith))
     ∙ ap (λ (u : Bool). u || there d (drop (i + 1) (disjuncts-of xs t))) (sym e)
 
 -- What is kept of the ways that are left, after some are kept.
@@ -105,7 +105,7 @@ kept-more xs l ds e i h out w o whole =
     let n = length-shown xs l ds e
     in let d = getD ds i free
     in let there : shown xs (getD (l .items) i w) ≡ clip d =
-        sym (read-at (shown xs) (l .items) (l .len) i w (clip free) h (omega arith))
-        ∙ ap (λ cs. getD cs i (clip free)) e ∙ getD-map clip ds i free (clip free) (omega arith)
+    sym (read-at (shown xs) (l .items) (l .len) i w (clip free) h (omega arith))
+    ∙ ap (λ cs. getD cs i (clip free)) e ∙ getD-map clip ds i free (clip free) (omega arith)
     in ap (kept-of out) (drop-more ds i free (omega arith)) ∙ kept-first out (drop (i + 1) ds) d
     ∙ ap (λ (x : Option Way). kept-next x out (drop (i + 1) ds)) (sym (whole d there))

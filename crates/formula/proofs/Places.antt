@@ -31,7 +31,7 @@ pub run-more : (p : ℕ → Bool) (xs : List ℕ) (i : ℕ) → i < length xs �
 unfolding run
 run-more p xs i h e =
     let d : run p (drop i xs) ≡ suc (run p (drop (i + 1) xs)) =
-        ap (run p) (drop-more xs i 0 h) ∙ ap (λ b. cond b (suc (run p (drop (i + 1) xs))) 0) e
+    ap (run p) (drop-more xs i 0 h) ∙ ap (λ b. cond b (suc (run p (drop (i + 1) xs))) 0) e
     in omega arith
 
 pub run-none : (p : ℕ → Bool) (xs : List ℕ) (i : ℕ) → p (getD xs i 0) ≡ false → i < length xs → run p (drop i xs) ≡ 0
@@ -91,11 +91,13 @@ module _ (xs : List ℕ) (i : ℕ) (h : i < length xs) where
         in let fits : pred (length (spelled w)) ≤ length (drop (i + 1) xs) = omega arith
         in let e1 : suc i + pred (length (spelled w)) ≡ i + length (spelled w) = omega arith
         in let e2 : (i + 1) + pred (length (spelled w)) ≡ i + length (spelled w) = omega arith
-        in (omega arith,
-            no-space ∙ ap (λ t. placed i t behind) e
-            ∙ ap (token i w) (cut-skip (pred (length (spelled w))) (suc i) (drop (i + 1) xs) fits
+        in (
+          omega arith,
+          no-space ∙ ap (λ t. placed i t behind) e
+              ∙ ap (token i w) (cut-skip (pred (length (spelled w))) (suc i) (drop (i + 1) xs) fits
               ∙ ap (λ bs. cut-after 0 (suc i + pred (length (spelled w))) bs) (drop-drop (pred (length (spelled w))) (i + 1) xs ∙ ap (λ m. drop m xs) e2)
-              ∙ ap (λ m. cut-after 0 m (drop (i + length (spelled w)) xs)) e1))
+              ∙ ap (λ m. cut-after 0 m (drop (i + length (spelled w)) xs)) e1),
+        )
 
     -- The same of what was found there, once it has its place.
     module _ (t : Result Placed Refusal) (says : token-at there (drop (i + 1) xs) ≡ said-there t) where
@@ -103,7 +105,7 @@ module _ (xs : List ℕ) (i : ℕ) (h : i < length xs) where
       fault-there f = go t says
         where
           go : (u : Result Placed Refusal) → token-at there (drop (i + 1) xs) ≡ said-there u → carried (λ r. fault i r) u ≡ Err f →
-            cut-from xs i ≡ fails (f .place) (f .refusal)
+              cut-from xs i ≡ fails (f .place) (f .refusal)
           go (Ok p) s e = let z : _≡_ {A = ℕ} 0 1 = cc in absurd (omega arith)
           go (Err r) s e = let g : fault i r ≡ f = cc in no-token-there r s ∙ ap (λ (x : FormulaFault). fails (x .place) (x .refusal)) g
 
@@ -111,15 +113,18 @@ module _ (xs : List ℕ) (i : ℕ) (h : i < length xs) where
       found-there p = go t says
         where
           go : (u : Result Placed Refusal) → token-at there (drop (i + 1) xs) ≡ said-there u → carried (λ r. fault i r) u ≡ Ok p →
-            made u (λ q. Stands xs i q) → Found xs i p
+              made u (λ q. Stands xs i q) → Found xs i p
           go (Ok q) s e (at, end, named) =
               let w = said (q .token)
               in let some = spelled-some w
               in let k = token-there w s some
               in let same : q ≡ p = cc
-              in subst (Found xs i) same
-                (omega arith, omega (arith, k .0), (at, end, named),
-                 k .1 ∙ ap (λ m. token i w (cut-from xs m)) (sym end) ∙ ap (λ m. token m w (cut-from xs (q .end))) (sym at))
+              in subst (Found xs i) same (
+                omega arith,
+                omega (arith, k .0),
+                (at, end, named),
+                k .1 ∙ ap (λ m. token i w (cut-from xs m)) (sym end) ∙ ap (λ m. token m w (cut-from xs (q .end))) (sym at),
+              )
           go (Err r) s e st = let z : _≡_ {A = ℕ} 0 1 = cc in absurd (omega arith)
 
   -- The token that begins with a capital, by where its name ends.

@@ -114,6 +114,6 @@ Stands formula at p =
 pub data Laid : List ℕ → ℕ → Cut → Type 0 where
   at-end : (k p : ℕ) → Laid (replicate k 32) p (ends (p + k))
   next : (k p : ℕ) (w : Word) (bs : List ℕ) (c : Cut) → Laid bs (p + k + length (spelled w)) c →
-    Laid (replicate k 32 ++ (spelled w ++ bs)) p (token (p + k) w c)
+      Laid (replicate k 32 ++ (spelled w ++ bs)) p (token (p + k) w c)
   no-token : (k p b : ℕ) (bs : List ℕ) (r : Refusal) → (b ≡ 32 → ⊥) → token-at b bs ≡ Err r →
-    Laid (replicate k 32 ++ (b ∷ bs)) p (fails (p + k) r)
+      Laid (replicate k 32 ++ (b ∷ bs)) p (fails (p + k) r)

@@ -103,7 +103,7 @@ abbrev pub Inside-read : List ℕ → (at depth : ℕ) → Bracket → Result Re
 Inside-read xs at d k (Ok r) =
     (i : Item) × Shows xs (r .ways) (item-ways i)
     × ((b : Before) (o : Open) → open-depth (inside k b o) ≡ d →
-      read (wants nothing (inside k b o)) (cut-from xs at) ≡ read (has (add b i) o) (cut-from xs (r .end)))
+    read (wants nothing (inside k b o)) (cut-from xs at) ≡ read (has (add b i) o) (cut-from xs (r .end)))
 Inside-read xs at d k (Err e) =
     (b : Before) (o : Open) → open-depth (inside k b o) ≡ d → read (wants nothing (inside k b o)) (cut-from xs at) ≡ Err e
 

@@ -123,11 +123,11 @@ Allowed ws = (f : Formula) × ((more : List Word) × ((ws ++ more ≡ tokens f) 
 pub data Answer (c : Cut) : Result Formula FormulaFault → Type 0 where
   accepted : (f : Formula) (p : ℕ) → After c (tokens f) (ends p) → depth f ≤ 16 → Answer c (Ok f)
   misplaced : (ws : List Word) (p : ℕ) (w : Word) (d : Cut) → After c ws (token p w d) → Allowed ws →
-    (Possible (ws ++ (w ∷ [])) → ⊥) → Answer c (Err (fault p OutOfPlace))
+      (Possible (ws ++ (w ∷ [])) → ⊥) → Answer c (Err (fault p OutOfPlace))
   unfinished : (ws : List Word) (p : ℕ) → After c ws (ends p) → Allowed ws → ((f : Formula) → ws ≡ tokens f → ⊥) →
-    Answer c (Err (fault p OutOfPlace))
+      Answer c (Err (fault p OutOfPlace))
   too-deep : (ws : List Word) (p : ℕ) (w : Word) (d : Cut) → After c ws (token p w d) → Allowed ws →
-    Possible (ws ++ (w ∷ [])) → (Allowed (ws ++ (w ∷ [])) → ⊥) → Answer c (Err (fault p TooDeep))
+      Possible (ws ++ (w ∷ [])) → (Allowed (ws ++ (w ∷ [])) → ⊥) → Answer c (Err (fault p TooDeep))
   no-token : (ws : List Word) (p : ℕ) (r : Refusal) → After c ws (fails p r) → Allowed ws → Answer c (Err (fault p r))
 
 -- The reading is the one answer.

@@ -68,7 +68,11 @@ fn connector<'a>(formula: &'a [u8], at: usize) -> Result<Placed<'a>, Refusal>
     ensures says { λ r. ⌜ token-at (getD (now (formula .entry)) at 0) (drop (at + 1) (now (formula .entry))) ≡ said-there r ⌝ }
     ensures placed { λ r. ⌜ made r (λ p. Stands (now (formula .entry)) at p) ⌝ }
 {
-    let end = run_end(formula, run_end(formula, at, Letter::Capital), Letter::Small);
+    let end = run_end(
+        formula,
+        run_end(formula, at, Letter::Capital),
+        Letter::Small,
+    );
     if end - at > LONGEST_NAME || end == formula.len() {
         return Err(Refusal::BadName);
     }
@@ -78,7 +82,11 @@ fn connector<'a>(formula: &'a [u8], at: usize) -> Result<Placed<'a>, Refusal>
         _ => return Err(Refusal::BadName),
     };
     let name = &formula[at..end];
-    Ok(Placed { token: Token::Connector { name, side }, at, end: end + 1 })
+    Ok(Placed {
+        token: Token::Connector { name, side },
+        at,
+        end: end + 1,
+    })
 }
 
 /// Whether `or` begins at a place.
@@ -102,7 +110,11 @@ fn token<'a>(formula: &'a [u8], at: usize) -> Result<Placed<'a>, Refusal>
         return connector(formula, at);
     }
     if or_begins(formula, at) {
-        return Ok(Placed { token: Token::Mark(Join::Or), at, end: at + 2 });
+        return Ok(Placed {
+            token: Token::Mark(Join::Or),
+            at,
+            end: at + 2,
+        });
     }
     let token = match formula[at] {
         b'&' => Token::Mark(Join::And),
@@ -112,7 +124,11 @@ fn token<'a>(formula: &'a [u8], at: usize) -> Result<Placed<'a>, Refusal>
         b'}' => Token::Close(Bracket::Brace),
         _ => return Err(Refusal::UnknownMark),
     };
-    Ok(Placed { token, at, end: at + 1 })
+    Ok(Placed {
+        token,
+        at,
+        end: at + 1,
+    })
 }
 
 /// A token's refusal, with the place where the token begins.

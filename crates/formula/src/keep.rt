@@ -95,8 +95,17 @@ fn whole(way: &Way) -> Option<Disjunct>
 fn no_disjuncts() -> Disjuncts
     ensures { λ r. ⌜ r .len ≡ 0 ⌝ }
 {
-    let none = Names { len: 0, places: [0; 8] };
-    Disjuncts { len: 0, items: [Disjunct { left: none, right: none }; 64] }
+    let none = Names {
+        len: 0,
+        places: [0; 8],
+    };
+    Disjuncts {
+        len: 0,
+        items: [Disjunct {
+            left: none,
+            right: none,
+        }; 64],
+    }
 }
 
 /// The disjuncts of a formula, from its ways: of equal ones the first is kept.

@@ -74,19 +74,31 @@ fn halves(a: &Half, b: &Half) -> Half
 fn glued(x: &Way, y: &Way) -> Way
     ensures { λ r. ⌜ ((xs : List ℕ) → shown xs r ≡ clip-glue (shown xs (now (x .entry))) (shown xs (now (y .entry)))) ⌝ }
 {
-    Way { left: halves(&x.left, &y.left), right: halves(&x.right, &y.right) }
+    Way {
+        left: halves(&x.left, &y.left),
+        right: halves(&x.right, &y.right),
+    }
 }
 
 fn none() -> Half
     ensures { λ r. ⌜ ((xs : List ℕ) → half xs r ≡ short []) ⌝ }
 {
-    Half::Listed(Names { len: 0, places: [0; 8] })
+    Half::Listed(Names {
+        len: 0,
+        places: [0; 8],
+    })
 }
 
 fn no_ways() -> Listing
     ensures { λ r. ⌜ r .len ≡ 0 ⌝ }
 {
-    Listing { len: 0, items: [Way { left: none(), right: none() }; 64] }
+    Listing {
+        len: 0,
+        items: [Way {
+            left: none(),
+            right: none(),
+        }; 64],
+    }
 }
 
 /// One way more, at the end.
@@ -141,17 +153,29 @@ fn either(a: &Listing, b: &Listing) -> Ways
 fn single(way: Way) -> Ways
     ensures { λ r. ⌜ ((xs : List ℕ) (d : Disjunct Name) → shown xs way ≡ clip d → Shows xs r (d ∷ [])) ⌝ }
 {
-    Ways::Listed(Listing { len: 1, items: [way; 64] })
+    Ways::Listed(Listing {
+        len: 1,
+        items: [way; 64],
+    })
 }
 
 /// The one way of a connector whose name stands at a place.
 pub fn one(place: usize, side: Side) -> Ways
     ensures { λ r. ⌜ ((xs : List ℕ) → Shows xs r (asking side (name-there xs place) ∷ [])) ⌝ }
 {
-    let name = Half::Listed(Names { len: 1, places: [place; 8] });
+    let name = Half::Listed(Names {
+        len: 1,
+        places: [place; 8],
+    });
     match side {
-        Side::Left => single(Way { left: name, right: none() }),
-        Side::Right => single(Way { left: none(), right: name }),
+        Side::Left => single(Way {
+            left: name,
+            right: none(),
+        }),
+        Side::Right => single(Way {
+            left: none(),
+            right: name,
+        }),
     }
 }
 
@@ -159,7 +183,10 @@ pub fn one(place: usize, side: Side) -> Ways
 pub fn empty() -> Ways
     ensures { λ r. ⌜ ((xs : List ℕ) → Shows xs r (free ∷ [])) ⌝ }
 {
-    single(Way { left: none(), right: none() })
+    single(Way {
+        left: none(),
+        right: none(),
+    })
 }
 
 /// The ways of two items that are joined. What has too many ways already does not get fewer, since no item has none.

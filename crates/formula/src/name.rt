@@ -10,7 +10,11 @@ fn name_end(formula: &[u8], place: usize) -> usize
     ensures value { λ r. ⌜ r ≡ place + name-length (drop place (now (formula .entry))) ⌝ }
     ensures within { λ r. ⌜ r ≤ length (now (formula .entry)) ⌝ }
 {
-    run_end(formula, run_end(formula, place, Letter::Capital), Letter::Small)
+    run_end(
+        formula,
+        run_end(formula, place, Letter::Capital),
+        Letter::Small,
+    )
 }
 
 /// The name that stands at a place of a formula; past its end there is none, as where no capital stands.

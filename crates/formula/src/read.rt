@@ -42,12 +42,18 @@ fn closing(formula: &[u8], at: usize, bracket: Bracket) -> Result<usize, Formula
     ensures on { λ r. ⌜ made r (λ end. (at < end) × (end ≤ length (now (formula .entry)))) ⌝ }
 {
     let Some(placed) = next(formula, at)? else {
-        return Err(FormulaFault { place: formula.len(), refusal: Refusal::OutOfPlace });
+        return Err(FormulaFault {
+            place: formula.len(),
+            refusal: Refusal::OutOfPlace,
+        });
     };
     match (placed.token, bracket) {
         (Token::Close(Bracket::Round), Bracket::Round) => Ok(placed.end),
         (Token::Close(Bracket::Brace), Bracket::Brace) => Ok(placed.end),
-        _ => Err(FormulaFault { place: placed.at, refusal: Refusal::OutOfPlace }),
+        _ => Err(FormulaFault {
+            place: placed.at,
+            refusal: Refusal::OutOfPlace,
+        }),
     }
 }
 
@@ -76,22 +82,39 @@ fn item_at(formula: &[u8], at: usize, depth: usize) -> Result<Reading, FormulaFa
     ensures on { λ r. ⌜ Further (now (formula .entry)) at r ⌝ }
 {
     let Some(placed) = next(formula, at)? else {
-        return Err(FormulaFault { place: formula.len(), refusal: Refusal::OutOfPlace });
+        return Err(FormulaFault {
+            place: formula.len(),
+            refusal: Refusal::OutOfPlace,
+        });
     };
     match placed.token {
-        Token::Connector { name: _, side } => Ok(Reading { ways: one(placed.at, side), end: placed.end }),
+        Token::Connector { name: _, side } => Ok(Reading {
+            ways: one(placed.at, side),
+            end: placed.end,
+        }),
         Token::Open(bracket) => {
             if depth >= DEEPEST {
-                return Err(FormulaFault { place: placed.at, refusal: Refusal::TooDeep });
+                return Err(FormulaFault {
+                    place: placed.at,
+                    refusal: Refusal::TooDeep,
+                });
             }
             inside_at(formula, placed.end, depth + 1, bracket)
         }
-        _ => Err(FormulaFault { place: placed.at, refusal: Refusal::OutOfPlace }),
+        _ => Err(FormulaFault {
+            place: placed.at,
+            refusal: Refusal::OutOfPlace,
+        }),
     }
 }
 
 /// What stands inside a bracket that was opened, with the bracket that closes it.
-fn inside_at(formula: &[u8], at: usize, depth: usize, bracket: Bracket) -> Result<Reading, FormulaFault>
+fn inside_at(
+    formula: &[u8],
+    at: usize,
+    depth: usize,
+    bracket: Bracket,
+) -> Result<Reading, FormulaFault>
     requires { ⌜ at ≤ length (now formula) ⌝ ∗ ⌜ depth ≤ 16 ⌝ }
     ensures reads { λ r. ⌜ Inside-read (now (formula .entry)) at depth bracket r ⌝ }
     ensures on { λ r. ⌜ Further (now (formula .entry)) at r ⌝ }
@@ -102,8 +125,14 @@ fn inside_at(formula: &[u8], at: usize, depth: usize, bracket: Bracket) -> Resul
     let inside = formula_at(formula, at, depth)?;
     let end = closing(formula, inside.end, bracket)?;
     match bracket {
-        Bracket::Round => Ok(Reading { ways: inside.ways, end }),
-        Bracket::Brace => Ok(Reading { ways: optional(&inside.ways), end }),
+        Bracket::Round => Ok(Reading {
+            ways: inside.ways,
+            end,
+        }),
+        Bracket::Brace => Ok(Reading {
+            ways: optional(&inside.ways),
+            end,
+        }),
     }
 }
 
@@ -123,7 +152,11 @@ fn more_of(formula: &[u8], row: &Row, depth: usize) -> Result<Option<Row>, Formu
         return Ok(None);
     }
     let item = item_at(formula, placed.end, depth)?;
-    Ok(Some(Row { ways: join(mark, &row.ways, &item.ways), join: Some(mark), end: item.end }))
+    Ok(Some(Row {
+        ways: join(mark, &row.ways, &item.ways),
+        join: Some(mark),
+        end: item.end,
+    }))
 }
 
 /// One item, or items that are all joined by one mark.
@@ -133,11 +166,18 @@ fn formula_at(formula: &[u8], at: usize, depth: usize) -> Result<Reading, Formul
     ensures on { λ r. ⌜ Further (now (formula .entry)) at r ⌝ }
 {
     let first = item_at(formula, at, depth)?;
-    let mut row = Row { ways: first.ways, join: None, end: first.end };
+    let mut row = Row {
+        ways: first.ways,
+        join: None,
+        end: first.end,
+    };
     while let Some(longer) = more_of(formula, &row, depth)? {
         row = longer;
     }
-    Ok(Reading { ways: row.ways, end: row.end })
+    Ok(Reading {
+        ways: row.ways,
+        end: row.end,
+    })
 }
 
 /// The ways of a whole formula.
@@ -147,6 +187,9 @@ pub fn parse(formula: &[u8]) -> Result<Ways, FormulaFault>
     let whole = formula_at(formula, 0, 0)?;
     match next(formula, whole.end)? {
         None => Ok(whole.ways),
-        Some(placed) => Err(FormulaFault { place: placed.at, refusal: Refusal::OutOfPlace }),
+        Some(placed) => Err(FormulaFault {
+            place: placed.at,
+            refusal: Refusal::OutOfPlace,
+        }),
     }
 }

@@ -2,9 +2,33 @@
 use Prim.Native.Nat.{ℕ}
 use Rattle.refusal.specs.declared.Refusal.{Refusal}
 use Rattle.refusal.specs.declared.Refusal.the-variants.{
-  LineForm, UnknownMark, OutOfPlace, TooDeep, BadName, ManyWays, LongList, WordTaken, TableShort, ChainSize,
-  FolioFull, NoWords, NoPosition, NoDisjunct, NothingStands, FewCells, ShortLoan, LongInput, ChoiceCount,
-  NoChoice, StruckChoice, LinkEnds, LinkOrder, Crossing, LinkCount, NoMatch}
+  LineForm,
+  UnknownMark,
+  OutOfPlace,
+  TooDeep,
+  BadName,
+  ManyWays,
+  LongList,
+  WordTaken,
+  TableShort,
+  ChainSize,
+  FolioFull,
+  NoWords,
+  NoPosition,
+  NoDisjunct,
+  NothingStands,
+  FewCells,
+  ShortLoan,
+  LongInput,
+  ChoiceCount,
+  NoChoice,
+  StruckChoice,
+  LinkEnds,
+  LinkOrder,
+  Crossing,
+  LinkCount,
+  NoMatch,
+}
 
 abbrev pub number-of : Refusal → ℕ
 number-of LineForm = 11

@@ -115,4 +115,3 @@ pub impl fmt::Display for Refusal as RefusalDisplay {
         f.write_str(self.message())
     }
 }
-

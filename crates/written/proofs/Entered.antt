@@ -40,19 +40,19 @@ module _ (lim : ℕ) (b : Book) (ws : List (List ℕ)) (ds : List Way) where
   pub is-taken : any-known (words-of (b .entries)) ws ≡ true → entered lim b ws ds ≡ Err (of-line WordTaken)
   is-taken e =
       ap (λ t. cond t (Err (of-line WordTaken))
-        (cond (ltb lim (with-words b ws ds .spent) || ltb 256 (length (with-words b ws ds .entries))) (Err (of-line TableShort)) (Ok (with-words b ws ds)))) e
+      (cond (ltb lim (with-words b ws ds .spent) || ltb 256 (length (with-words b ws ds .entries))) (Err (of-line TableShort)) (Ok (with-words b ws ds)))) e
 
   module _ (new : any-known (words-of (b .entries)) ws ≡ false) where
     fits : entered lim b ws ds
         ≡ cond (ltb lim (with-words b ws ds .spent) || ltb 256 (length (with-words b ws ds .entries))) (Err (of-line TableShort)) (Ok (with-words b ws ds))
     fits =
         ap (λ t. cond t (Err (of-line WordTaken))
-          (cond (ltb lim (with-words b ws ds .spent) || ltb 256 (length (with-words b ws ds .entries))) (Err (of-line TableShort)) (Ok (with-words b ws ds)))) new
+        (cond (ltb lim (with-words b ws ds .spent) || ltb 256 (length (with-words b ws ds .entries))) (Err (of-line TableShort)) (Ok (with-words b ws ds)))) new
 
     pub is-dear : lim < with-words b ws ds .spent → entered lim b ws ds ≡ Err (of-line TableShort)
     is-dear h =
         fits ∙ ap (λ t. cond (t || ltb 256 (length (with-words b ws ds .entries))) (Err (of-line TableShort)) (Ok (with-words b ws ds)))
-          (lt-ltb lim (with-words b ws ds .spent) h)
+        (lt-ltb lim (with-words b ws ds .spent) h)
 
     pub is-many : 256 < length (b .entries) + length ws → entered lim b ws ds ≡ Err (of-line TableShort)
     is-many h = fits ∙ either (ltb lim (with-words b ws ds .spent)) (lt-ltb 256 (length (with-words b ws ds .entries)) (omega (arith, longer)))
@@ -84,9 +84,11 @@ short-lists xs t k s = go (take (t .len) (t .items)) k
         two : (s : Side) → length (side-of (disjunct-of xs d) s) ≤ 8
         two Left = let e = length-names xs (d .left) in omega (arith, d .left .few)
         two Right = let e = length-names xs (d .right) in omega (arith, d .right .few)
+
     none : (s : Side) → length (side-of {C = Name} free s) ≤ 8
     none Left = omega arith
     none Right = omega arith
+
     go : (ds : List Kept) (k : ℕ) → length (side-of (getD (map (disjunct-of xs) ds) k free) s) ≤ 8
     go [] k = none s
     go (d ∷ ds) zero = half d

@@ -19,7 +19,7 @@ found-among k [] w h n = absurd (n refl)
 found-among k (e ∷ es) w h n = go (found-among (suc k) es w (omega arith)) (same (e .word) w) refl
   where
     go : ((find-from (suc k) es w ≡ 65535 → ⊥) → among w (words-of es) ≡ true) → (b : Bool) → same (e .word) w ≡ b →
-      same w (e .word) || among w (words-of es) ≡ true
+        same w (e .word) || among w (words-of es) ≡ true
     go rest true q = ap (λ t. t || among w (words-of es)) (sym (same-turned (e .word) w) ∙ q)
     go rest false q =
         ap (λ t. t || among w (words-of es)) (sym (same-turned (e .word) w) ∙ q)
@@ -31,7 +31,7 @@ none-among k [] w h n = refl
 none-among k (e ∷ es) w h n = go (none-among (suc k) es w (omega arith)) (same (e .word) w) refl
   where
     go : (find-from (suc k) es w ≡ 65535 → among w (words-of es) ≡ false) → (b : Bool) → same (e .word) w ≡ b →
-      same w (e .word) || among w (words-of es) ≡ false
+        same w (e .word) || among w (words-of es) ≡ false
     go rest true q =
         let z : k ≡ 65535 = sym (ap (λ t. cond t k (find-from (suc k) es w)) q) ∙ n
         in absurd (omega arith)

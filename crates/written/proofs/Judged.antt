@@ -77,4 +77,4 @@ module _ (line : List ℕ) (p : Parts) (parts : Good-parts line p) where
       (k i : ℕ) (s : Side) → Named-ok (getD (side-of (getD ds k free) s) i [])
   names-good bytes ds m =
       good-names (formula-part line)
-        (λ i. subst (λ (b : ℕ). b < 256) (sym (getD-drop (suc (tab-place line)) line i 0)) (bytes (suc (tab-place line) + i))) ds m
+      (λ i. subst (λ (b : ℕ). b < 256) (sym (getD-drop (suc (tab-place line)) line i 0)) (bytes (suc (tab-place line) + i))) ds m

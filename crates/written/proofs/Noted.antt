@@ -27,9 +27,9 @@ fresh-append known [] ns = ap (λ k. fresh k ns) (sym (append-nil known))
 fresh-append known (m ∷ ms) ns = go (among m known) (fresh-append known ms ns) (fresh-append (known ++ (m ∷ [])) ms ns)
   where
     go : (b : Bool) → fresh known (ms ++ ns) ≡ fresh known ms ++ fresh (known ++ fresh known ms) ns →
-      fresh (known ++ (m ∷ [])) (ms ++ ns) ≡ fresh (known ++ (m ∷ [])) ms ++ fresh ((known ++ (m ∷ [])) ++ fresh (known ++ (m ∷ [])) ms) ns →
-      cond b (fresh known (ms ++ ns)) (m ∷ fresh (known ++ (m ∷ [])) (ms ++ ns))
-      ≡ cond b (fresh known ms) (m ∷ fresh (known ++ (m ∷ [])) ms)
+        fresh (known ++ (m ∷ [])) (ms ++ ns) ≡ fresh (known ++ (m ∷ [])) ms ++ fresh ((known ++ (m ∷ [])) ++ fresh (known ++ (m ∷ [])) ms) ns →
+        cond b (fresh known (ms ++ ns)) (m ∷ fresh (known ++ (m ∷ [])) (ms ++ ns))
+        ≡ cond b (fresh known ms) (m ∷ fresh (known ++ (m ∷ [])) ms)
         ++ fresh (known ++ cond b (fresh known ms) (m ∷ fresh (known ++ (m ∷ [])) ms)) ns
     go true e f = e
     go false e f =

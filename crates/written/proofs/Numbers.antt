@@ -32,7 +32,7 @@ rises q [] = tt
 rises q (c ∷ cs) = go (eqb c MARK) (rises (suc q) cs)
   where
     go : (b : Bool) → Rising (suc q) (names-from (suc q) cs) →
-      Rising q (cond b (record { name = take (getD cs 0 0) (drop 1 cs); number = q } ∷ names-from (suc q) cs) (names-from (suc q) cs))
+        Rising q (cond b (record { name = take (getD cs 0 0) (drop 1 cs); number = q } ∷ names-from (suc q) cs) (names-from (suc q) cs))
     go true r = (omega arith, r)
     go false r = rising-weaker q (suc q) (names-from (suc q) cs) (omega arith) r
 
@@ -70,6 +70,7 @@ names-apart (m ∷ ms) (n, d) (suc i) zero h l e =
 names-apart (m ∷ ms) (n, d) (suc i) (suc j) h l e = ap suc (names-apart ms d i j (omega arith) (omega arith) e)
 
 pub one-number : (s : Store) → Whole s → One-number (model s .names)
-one-number s whole i j h l =
-    (names-apart (names-from 0 (s .front)) (apart-distinct 0 (s .front) (whole .2)) i j h l,
-     numbers-apart 0 (names-from 0 (s .front)) (rises 0 (s .front)) i j h l)
+one-number s whole i j h l = (
+  names-apart (names-from 0 (s .front)) (apart-distinct 0 (s .front) (whole .2)) i j h l,
+  numbers-apart 0 (names-from 0 (s .front)) (rises 0 (s .front)) i j h l,
+)

@@ -55,5 +55,9 @@ pub(crate) fn cost(words: &[u8], formula: &[u8], disjuncts: &Disjuncts, fresh: &
     requires names { ⌜ ((i : ℕ) → length (getD (fresh-of (now formula) (now fresh)) i []) ≤ 8) ⌝ }
     ensures { λ r. ⌜ r ≡ line-cost (pieces 32 (now (words .entry))) (disjuncts-of (now (formula .entry)) (now (disjuncts .entry))) (fresh-of (now (formula .entry)) (now (fresh .entry))) ⌝ }
 {
-    4 + word_cells(words) + 3 * disjuncts.len + connector_count(disjuncts) + name_cells(formula, fresh)
+    4
+        + word_cells(words)
+        + 3 * disjuncts.len
+        + connector_count(disjuncts)
+        + name_cells(formula, fresh)
 }

@@ -7,7 +7,6 @@ use crate::page::Page;
 pub mod take;
 pub mod text;
 
-
 /// A dictionary that is being written: it takes lines until it is closed.
 #[derive(Drop)]
 pub struct Draft<'t> {

@@ -17,6 +17,9 @@ pub impl From<FormulaFault> for LineFault as LineFromFormula {
     ghost converts = { λ e r. r ≡ of-formula e };
 
     fn from(e: FormulaFault) -> LineFault {
-        LineFault { place: e.place, refusal: e.refusal }
+        LineFault {
+            place: e.place,
+            refusal: e.refusal,
+        }
     }
 }

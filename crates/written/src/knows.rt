@@ -5,8 +5,8 @@ ghost use Rattle.written.specs.Lines.{pieces, some-among};
 ghost use Rattle.written.specs.Model.{Entry};
 ghost use Rattle.written.specs.Pages.{limit, store, taken};
 ghost use Rattle.written.specs.Store.{Whole, model};
-use crate::cells::find;
 use crate::cells::NO_WORD;
+use crate::cells::find;
 use crate::pieces::piece_end;
 
 /// Whether the table has one of some words.

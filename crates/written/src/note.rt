@@ -19,7 +19,10 @@ use formula::names::Names;
 fn no_names() -> Fresh
     ensures { λ r. ⌜ r .len ≡ 0 ⌝ }
 {
-    Fresh { len: 0, places: [0; 1024] }
+    Fresh {
+        len: 0,
+        places: [0; 1024],
+    }
 }
 
 fn push(fresh: &mut Fresh, place: usize)
@@ -89,7 +92,12 @@ fn note_list(cells: &[u16], used: usize, formula: &[u8], fresh: &mut Fresh, name
 }
 
 /// The names of some disjuncts that the table does not have, each once.
-pub(crate) fn fresh_names(cells: &[u16], used: usize, formula: &[u8], disjuncts: &Disjuncts) -> Fresh
+pub(crate) fn fresh_names(
+    cells: &[u16],
+    used: usize,
+    formula: &[u8],
+    disjuncts: &Disjuncts,
+) -> Fresh
     requires roomy { ⌜ used ≤ limit (now cells) ⌝ }
     requires whole { ⌜ Whole-names (take used (now cells)) ⌝ }
     ensures { λ r. ⌜ fresh-of (now (formula .entry)) r ≡ unmet (known (now (cells .entry)) used) (mentioned (disjuncts-of (now (formula .entry)) (now (disjuncts .entry)))) ⌝ }

@@ -31,7 +31,13 @@ impl<'t> Draft<'t> {
         ensures book { λ r. ⌜ book r ≡ empty-book ⌝ }
         ensures table { λ r. ⌜ now (r .page .table) ≡ now (table .entry) ⌝ }
     {
-        Draft { page: Page { table, used: 0, words: 0 } }
+        Draft {
+            page: Page {
+                table,
+                used: 0,
+                words: 0,
+            },
+        }
     }
 
     /// Takes a line: its words with the disjuncts of its formula, or a refusal that leaves draft and table as they were.

@@ -18,7 +18,11 @@ fn in_text(line: usize, taken: Result<(), LineFault>) -> Result<(), Fault>
 {
     match taken {
         Ok(()) => Ok(()),
-        Err(e) => Err(Fault { line, place: e.place, refusal: e.refusal }),
+        Err(e) => Err(Fault {
+            line,
+            place: e.place,
+            refusal: e.refusal,
+        }),
     }
 }
 

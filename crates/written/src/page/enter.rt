@@ -56,7 +56,12 @@ impl<'t> Page<'t> {
     }
 
     /// Enters the words of a line, all with its disjuncts, unless one of them is known or there is no room.
-    pub(crate) fn enter(&mut self, words: &[u8], formula: &[u8], disjuncts: &Disjuncts) -> Result<(), LineFault>
+    pub(crate) fn enter(
+        &mut self,
+        words: &[u8],
+        formula: &[u8],
+        disjuncts: &Disjuncts,
+    ) -> Result<(), LineFault>
         requires roomy { ⌜ taken (now self .used) (now self .words) ≤ limit (now (now self .table)) ⌝ }
         requires few { ⌜ now self .words ≤ 256 ⌝ }
         requires whole { ⌜ ∥ Whole (page-store (now self)) ∥₁ ⌝ }
@@ -71,14 +76,23 @@ impl<'t> Page<'t> {
         ensures whole { λ _. ⌜ ∥ Whole (page-store (now (self .exit))) ∥₁ ⌝ }
     {
         if self.knows(words) || repeats(words) {
-            return Err(LineFault { place: 0, refusal: Refusal::WordTaken });
+            return Err(LineFault {
+                place: 0,
+                refusal: Refusal::WordTaken,
+            });
         }
         if word_count(words) > MOST_WORDS - self.words {
-            return Err(LineFault { place: 0, refusal: Refusal::TableShort });
+            return Err(LineFault {
+                place: 0,
+                refusal: Refusal::TableShort,
+            });
         }
         let fresh = self.unmet(formula, disjuncts);
         if cost(words, formula, disjuncts, &fresh) > self.room() {
-            return Err(LineFault { place: 0, refusal: Refusal::TableShort });
+            return Err(LineFault {
+                place: 0,
+                refusal: Refusal::TableShort,
+            });
         }
         self.write_line(words, formula, disjuncts, &fresh);
         Ok(())

@@ -19,11 +19,12 @@ returns-in-Break-placed c =
     in let h : at < length xs = omega arith
     in let p = err-from-errBy (c .from-residual .result) (c .from-residual .ensures .1)
     in let f = fault-there xs at h (c .skip-at .ensures .stops h) (c .token .result) (c .token .ensures .says) (c .in-Break-placed .field-0 .0)
-        (sym (c .in-place .ensures) ∙ c .in-Break-placed .was tt)
+    (sym (c .in-place .ensures) ∙ c .in-Break-placed .was tt)
     in record {
       cuts = c .skip-at .ensures .cuts ∙ f
-        ∙ ap (λ (e : FormulaFault). fails (e .place) (e .refusal)) (sym (p .2)) ∙ ap (next-cut xs) (sym (p .1));
-      placed = made-from-err (c .from-residual .result) _ (c .from-residual .ensures .0) }
+          ∙ ap (λ (e : FormulaFault). fails (e .place) (e .refusal)) (sym (p .2)) ∙ ap (next-cut xs) (sym (p .1));
+      placed = made-from-err (c .from-residual .result) _ (c .from-residual .ensures .0);
+    }
 
 pub returns : need.returns
 returns c =
@@ -31,5 +32,5 @@ returns c =
     in let at = c .skip-at .result
     in let h : at < length xs = omega arith
     in let f = found-there xs at h (c .skip-at .ensures .stops h) (c .token .result) (c .token .ensures .says) (c .in-Continue-placed .placed)
-        (sym (c .in-place .ensures) ∙ c .in-Continue-placed .was tt) (c .token .ensures .placed)
+    (sym (c .in-place .ensures) ∙ c .in-Continue-placed .was tt) (c .token .ensures .placed)
     in record { cuts = c .skip-at .ensures .cuts ∙ f .3; placed = (omega (arith, f .0), f .1, subst (λ m. Stands xs m (c .in-Continue-placed .placed)) (sym (f .2 .0)) (f .2)) }

@@ -10,12 +10,12 @@ use Rattle.formula.proofs.keep.among.Needs as need
 pub returns-then-same : need.returns-then-same
 returns-then-same c =
     sym (c .loop-i .inv ∙ there-more (c .args .formula .now) (disjunct-of (c .args .formula .now) (c .args .one .now)) (c .args .out .now) (c .loop-i .i)
-      (c .index-out-i .result) true (c .loop-i-test .taken) (c .if-same .ensures tt))
+    (c .index-out-i .result) true (c .loop-i-test .taken) (c .if-same .ensures tt))
 
 pub loop-i-again : need.loop-i-again
 loop-i-again c =
     c .loop-i .inv ∙ there-more (c .args .formula .now) (disjunct-of (c .args .formula .now) (c .args .one .now)) (c .args .out .now) (c .loop-i .i)
-      (c .index-out-i .result) false (c .loop-i-test .taken) (c .if-same .ensures tt)
+    (c .index-out-i .result) false (c .loop-i-test .taken) (c .if-same .ensures tt)
 
 pub returns : need.returns
 unfolding there

@@ -18,17 +18,20 @@ returns-in-rest-whole c ds s =
     in let l = c .in-Listed .listing
     in let e : table xs l ≡ map clip ds = subst (λ (w : Ways). Shows xs w ds) (c .in-Listed .is) s .1
     in sym (fitted-few xs l ds e ∙ c .loop-i .inv .1 ds e
-      ∙ kept-more xs l ds e (c .loop-i .i) (c .loop-i-test .taken) (disjuncts-of xs (c .loop-i .out)) (c .index-listing-i .result) None
-        (λ d. c .in-rest-whole .ensures tt xs d))
+    ∙ kept-more xs l ds e (c .loop-i .i) (c .loop-i-test .taken) (disjuncts-of xs (c .loop-i .out)) (c .index-listing-i .result) None
+    (λ d. c .in-rest-whole .ensures tt xs d))
 
 pub loop-i-again : need.loop-i-again
-loop-i-again c = (omega arith, λ ds e.
-    let xs = c .args .formula .now
-    in let i = c .loop-i .i
-    in c .loop-i .inv .1 ds e
+loop-i-again c = (
+  omega arith,
+  λ ds e.
+      let xs = c .args .formula .now
+      in let i = c .loop-i .i
+      in c .loop-i .inv .1 ds e
       ∙ kept-more xs (c .in-Listed .listing) ds e i (c .loop-i-test .taken) (disjuncts-of xs (c .loop-i .out)) (c .index-listing-i .result)
-        (Some (disjunct-of xs (c .in-Some .one))) (λ d. c .in-Some .ensures tt xs d)
-      ∙ ap (λ (out : List Way). kept-of out (drop (i + 1) ds)) (sym (c .keep .ensures .keeps)))
+      (Some (disjunct-of xs (c .in-Some .one))) (λ d. c .in-Some .ensures tt xs d)
+      ∙ ap (λ (out : List Way). kept-of out (drop (i + 1) ds)) (sym (c .keep .ensures .keeps)),
+)
 
 pub returns : need.returns
 unfolding some-long

@@ -11,4 +11,4 @@ abbrev pub Inv-loop-i : given.InvT-loop-i
 Inv-loop-i l =
     (l .out .len ≤ l .i)
     × ((ds : List Way) → table (l .formula) (l .listing) ≡ map clip ds →
-       kept-of [] ds ≡ kept-of (disjuncts-of (l .formula) (l .out)) (drop (l .i) ds))
+    kept-of [] ds ≡ kept-of (disjuncts-of (l .formula) (l .out)) (drop (l .i) ds))

@@ -11,5 +11,6 @@ returns c =
     let t = c .args .out .now
     in record {
       adds = λ xs. ap (map (disjunct-of xs)) (take-more-set (t .items) (t .len) (c .args .one) (omega arith))
-        ∙ map-push (disjunct-of xs) (take (t .len) (t .items)) (c .args .one);
-      longer = refl }
+          ∙ map-push (disjunct-of xs) (take (t .len) (t .items)) (c .args .one);
+      longer = refl;
+    }

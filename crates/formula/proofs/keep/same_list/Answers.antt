@@ -23,12 +23,12 @@ returns-then-a-b c =
 pub returns-then-not-same-name : need.returns-then-not-same-name
 returns-then-not-same-name c =
     sym (c .loop-i .inv ∙ same-more (c .args .formula .now) (c .args .a .now) (c .args .b .now) (c .loop-i .i) false
-      (c .loop-i-test .taken) (omega arith) (c .if-not-same-name .ensures tt))
+    (c .loop-i-test .taken) (omega arith) (c .if-not-same-name .ensures tt))
 
 pub loop-i-again : need.loop-i-again
 loop-i-again c =
     c .loop-i .inv ∙ same-more (c .args .formula .now) (c .args .a .now) (c .args .b .now) (c .loop-i .i) true
-      (c .loop-i-test .taken) (omega arith) (c .if-not-same-name .ensures tt)
+    (c .loop-i-test .taken) (omega arith) (c .if-not-same-name .ensures tt)
 
 pub returns : need.returns
 returns c =
@@ -41,4 +41,4 @@ returns c =
     in let k : length (names-of xs a) ≤ i = omega arith
     in let l : length (names-of xs b) ≤ i = omega arith
     in sym (c .loop-i .inv ∙ ap (λ v. same-names v (drop i (names-of xs b))) (drop-all i (names-of xs a) k)
-      ∙ ap (same-names []) (drop-all i (names-of xs b) l))
+    ∙ ap (same-names []) (drop-all i (names-of xs b) l))

@@ -26,9 +26,11 @@ loop-i-again c =
     let a = c .args .a .now
     in let b = c .args .b .now
     in let l : c .loop-i .i < length (b .places) = omega arith
-    in (omega arith,
-        copied-more (places-of a) (b .places) (places-of (c .loop-i .both)) (places-of (c .add .last .names)) (c .loop-i .i) 0 l
-        (c .loop-i .inv .1) (c .add .ensures .places))
+    in (
+      omega arith,
+      copied-more (places-of a) (b .places) (places-of (c .loop-i .both)) (places-of (c .add .last .names)) (c .loop-i .i) 0 l
+          (c .loop-i .inv .1) (c .add .ensures .places),
+    )
 
 pub returns : need.returns
 returns c xs =
@@ -39,6 +41,6 @@ returns c xs =
     in let h = c .if-too-long .ensures tt
     in let e : c .loop-i .i ≡ b .len = omega arith
     in let t : places-of (c .loop-i .both) ≡ places-of a ++ places-of b =
-        c .loop-i .inv .1 ∙ ap (λ i. places-of a ++ take i (b .places)) e
+    c .loop-i .inv .1 ∙ ap (λ i. places-of a ++ take i (b .places)) e
     in ap (λ ps. Some (map (name-there xs) ps)) t ∙ ap Some (map-append (name-there xs) (places-of a) (places-of b))
     ∙ sym (fits (names-of xs a ++ names-of xs b) (simp length-append (omega arith)))

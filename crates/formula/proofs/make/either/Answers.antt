@@ -22,9 +22,11 @@ loop-i-again c =
     let a = c .args .a .now
     in let b = c .args .b .now
     in let l : c .loop-i .i < length (b .items) = omega arith
-    in (omega arith,
-        copied-more (items-of a) (b .items) (items-of (c .loop-i .all)) (items-of (c .push .last .listing)) (c .loop-i .i) _ l
-        (c .loop-i .inv .1) (c .push .ensures .items))
+    in (
+      omega arith,
+      copied-more (items-of a) (b .items) (items-of (c .loop-i .all)) (items-of (c .push .last .listing)) (c .loop-i .i) _ l
+          (c .loop-i .inv .1) (c .push .ensures .items),
+    )
 
 pub returns : need.returns
 returns c xs ds es f g =
@@ -32,7 +34,9 @@ returns c xs ds es f g =
     in let b = c .args .b .now
     in let e : c .loop-i .i ≡ b .len = omega arith
     in let t : items-of (c .loop-i .all) ≡ items-of a ++ items-of b =
-        c .loop-i .inv .1 ∙ ap (λ i. items-of a ++ take i (b .items)) e
-    in (simp length-append (omega arith),
-        ap (map (shown xs)) t ∙ map-append (shown xs) (items-of a) (items-of b)
-        ∙ ap (λ cs. cs ++ table xs b) (f .1) ∙ ap (λ cs. map clip ds ++ cs) (g .1) ∙ sym (map-append clip ds es))
+    c .loop-i .inv .1 ∙ ap (λ i. items-of a ++ take i (b .items)) e
+    in (
+      simp length-append (omega arith),
+      ap (map (shown xs)) t ∙ map-append (shown xs) (items-of a) (items-of b)
+          ∙ ap (λ cs. cs ++ table xs b) (f .1) ∙ ap (λ cs. map clip ds ++ cs) (g .1) ∙ sym (map-append clip ds es),
+    )

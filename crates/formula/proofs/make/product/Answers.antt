@@ -23,9 +23,10 @@ returns-then-too-many c xs ds es f g =
 
 pub loop-i-holds : need.loop-i-holds
 unfolding crossed
-loop-i-holds c =
-    (c .no-ways-all .ensures ∙ sym (zero-mul (c .args .b .now .len)),
-     λ xs. ap (λ n. map (shown xs) (take n (c .no-ways-all .result .items))) (c .no-ways-all .ensures))
+loop-i-holds c = (
+  c .no-ways-all .ensures ∙ sym (zero-mul (c .args .b .now .len)),
+  λ xs. ap (λ n. map (shown xs) (take n (c .no-ways-all .result .items))) (c .no-ways-all .ensures),
+)
 
 pub spread-requires : need.spread-requires
 spread-requires c κs =
@@ -40,12 +41,15 @@ loop-i-again c =
     in let i = c .loop-i .i
     in let y = c .index-a-i .result
     in let h : i < length (a .items) = omega arith
-    in (omega (arith, more i (b .len)), λ xs.
-        let s : table xs (c .spread .last .listing) ≡ table xs (c .loop-i .all) ++ map (clip-glue (shown xs (getD (a .items) i y))) (table xs b) =
-            c .spread .ensures .shows xs
-        in s ∙ ap (λ cs. cs ++ map (clip-glue (shown xs (getD (a .items) i y))) (table xs b)) (c .loop-i .inv .1 xs)
-        ∙ sym (crossed-push (map (shown xs) (take i (a .items))) (shown xs (getD (a .items) i y)) (table xs b))
-        ∙ ap (λ cs. crossed cs (table xs b)) (sym (map-more (shown xs) (a .items) i y h)))
+    in (
+      omega (arith, more i (b .len)),
+      λ xs.
+          let s : table xs (c .spread .last .listing) ≡ table xs (c .loop-i .all) ++ map (clip-glue (shown xs (getD (a .items) i y))) (table xs b) =
+          c .spread .ensures .shows xs
+          in s ∙ ap (λ cs. cs ++ map (clip-glue (shown xs (getD (a .items) i y))) (table xs b)) (c .loop-i .inv .1 xs)
+          ∙ sym (crossed-push (map (shown xs) (take i (a .items))) (shown xs (getD (a .items) i y)) (table xs b))
+          ∙ ap (λ cs. crossed cs (table xs b)) (sym (map-more (shown xs) (a .items) i y h)),
+    )
 
 pub returns : need.returns
 returns c xs ds es f g =
@@ -53,6 +57,8 @@ returns c xs ds es f g =
     in let b = c .args .b .now
     in let e : c .loop-i .i ≡ a .len = omega arith
     in let n = no-fewer And ds es (f .0) (g .0)
-    in (omega (arith, n .0),
-        c .loop-i .inv .1 xs ∙ ap (λ i. crossed (map (shown xs) (take i (a .items))) (table xs b)) e
-        ∙ ap (λ cs. crossed cs (table xs b)) (f .1) ∙ ap (λ cs. crossed (map clip ds) cs) (g .1) ∙ sym (clip-product ds es))
+    in (
+      omega (arith, n .0),
+      c .loop-i .inv .1 xs ∙ ap (λ i. crossed (map (shown xs) (take i (a .items))) (table xs b)) e
+          ∙ ap (λ cs. crossed cs (table xs b)) (f .1) ∙ ap (λ cs. crossed (map clip ds) cs) (g .1) ∙ sym (clip-product ds es),
+    )

@@ -26,7 +26,7 @@ module _ (xs : List ℕ) (f : Formula) (is : reading xs ≡ Ok f) where
   placed d e = swap d ∙ ap (carried (λ r. fault 0 r)) e ∙ sym (ap (λ t. then t (λ g. carried (λ r. fault 0 r) (fitted (ways g)))) is)
     where
       swap : (d : Result Disjuncts Refusal) →
-        mapped (disjuncts-of xs) (λ e. e) (carried (λ r. fault 0 r) d) ≡ carried (λ r. fault 0 r) (mapped (disjuncts-of xs) (λ e. e) d)
+          mapped (disjuncts-of xs) (λ e. e) (carried (λ r. fault 0 r) d) ≡ carried (λ r. fault 0 r) (mapped (disjuncts-of xs) (λ e. e) d)
       swap (Ok x) = refl
       swap (Err r) = refl
 
@@ -36,10 +36,11 @@ returns-in-Break-ways c =
     in let p = err-from-errBy (c .from-residual .result) (c .from-residual .ensures .1)
     in record {
       means = ap (mapped (disjuncts-of xs) (λ e. e)) (p .1 ∙ ap Err (p .2))
-        ∙ sym (ap (λ t. then t (λ g. carried (λ r. fault 0 r) (fitted (ways g)))) (c .in-Break-ways .ensures tt));
+          ∙ sym (ap (λ t. then t (λ g. carried (λ r. fault 0 r) (fitted (ways g)))) (c .in-Break-ways .ensures tt));
       grammar = right-answer xs;
       bytes = laid xs;
-      kept = kept-once }
+      kept = kept-once;
+    }
 
 pub returns-in-Break-kept : need.returns-in-Break-kept
 returns-in-Break-kept c =
@@ -48,10 +49,11 @@ returns-in-Break-kept c =
     in let (f, is, shows) = c .in-Continue-ways .ensures tt
     in record {
       means = ap (mapped (disjuncts-of xs) (λ e. e)) (p .1 ∙ ap Err (p .2) ∙ c .in-Break-kept .ensures tt)
-        ∙ placed xs f is (c .disjuncts .result) (c .disjuncts .ensures (ways f) shows);
+          ∙ placed xs f is (c .disjuncts .result) (c .disjuncts .ensures (ways f) shows);
       grammar = right-answer xs;
       bytes = laid xs;
-      kept = kept-once }
+      kept = kept-once;
+    }
 
 pub returns : need.returns
 returns c =
@@ -59,7 +61,8 @@ returns c =
     in let (f, is, shows) = c .in-Continue-ways .ensures tt
     in record {
       means = ap (mapped (disjuncts-of xs) (λ e. e)) (c .in-Continue-kept .ensures tt)
-        ∙ placed xs f is (c .disjuncts .result) (c .disjuncts .ensures (ways f) shows);
+          ∙ placed xs f is (c .disjuncts .result) (c .disjuncts .ensures (ways f) shows);
       grammar = right-answer xs;
       bytes = laid xs;
-      kept = kept-once }
+      kept = kept-once;
+    }

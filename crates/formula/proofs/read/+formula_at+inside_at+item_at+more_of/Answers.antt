@@ -67,8 +67,9 @@ inside-at-returns-in-Break-end t c =
     in let p = err-from-errBy (c .from-residual .result) (c .from-residual .ensures .1)
     in record {
       reads = passed (Inside-read xs (c .args .at) (c .args .depth) (c .args .bracket)) (c .from-residual .result) (p .0) (c .in-Break-end .field-0 .0) (p .1) (p .2)
-        (λ b o h. fails-there (wants nothing (inside (c .args .bracket) b o)) (cut-from xs (c .args .at)) (c .in-Break-end .field-0 .0 .place) (c .in-Break-end .field-0 .0 .refusal) (c .in-Break-end .ensures tt .reads));
-      on = passed (Further xs (c .args .at)) (c .from-residual .result) (p .0) (c .in-Break-end .field-0 .0) (p .1) (p .2) tt }
+          (λ b o h. fails-there (wants nothing (inside (c .args .bracket) b o)) (cut-from xs (c .args .at)) (c .in-Break-end .field-0 .0 .place) (c .in-Break-end .field-0 .0 .refusal) (c .in-Break-end .ensures tt .reads));
+      on = passed (Further xs (c .args .at)) (c .from-residual .result) (p .0) (c .in-Break-end .field-0 .0) (p .1) (p .2) tt;
+    }
 
 pub inside-at-returns-in-Some : need.inside-at-returns-in-Some
 unfolding ways open-depth
@@ -78,10 +79,14 @@ inside-at-returns-in-Some t c =
     in let (p, round, e) = subst P (c .in-Some .is) (c .in-Continue-end .ensures tt .reads)
     in let on = subst (λ o. BySome o (Unit {0}) (λ end. (c .args .at < end) × (end ≤ length xs))) (c .in-Some .is) (c .in-Continue-end .ensures tt .on)
     in record {
-      reads = (empty, c .empty .ensures xs,
+      reads = (
+        empty,
+        c .empty .ensures xs,
         λ b o h. ap (λ k. read (wants nothing (inside k b o)) (cut-from xs (c .args .at))) round
-          ∙ empty-there b o (cut-from xs (c .args .at)) p (cut-from xs (c .in-Some .end)) e (omega (arith, c .pre .1)));
-      on = on }
+            ∙ empty-there b o (cut-from xs (c .args .at)) p (cut-from xs (c .in-Some .end)) e (omega (arith, c .pre .1)),
+      );
+      on = on;
+    }
 
 pub inside-at-returns-in-Break-end-2 : need.inside-at-returns-in-Break-end-2
 inside-at-returns-in-Break-end-2 t c =
@@ -91,9 +96,10 @@ inside-at-returns-in-Break-end-2 t c =
     in let (f, shows, stops, reads) = c .in-Continue-inside .ensures tt .reads
     in record {
       reads = passed (Inside-read xs (c .args .at) (c .args .depth) (c .args .bracket)) (c .from-residual-in-Break-end-2 .result) (p .0) e (p .1) (p .2)
-        (λ b o h. reads (inside (c .args .bracket) b o) h
+          (λ b o h. reads (inside (c .args .bracket) b o) h
           ∙ unclosed f b o (cut-from xs (c .in-Continue-inside .inside .end)) (c .args .bracket) e stops (c .in-Break-end-2 .ensures tt .reads));
-      on = passed (Further xs (c .args .at)) (c .from-residual-in-Break-end-2 .result) (p .0) e (p .1) (p .2) tt }
+      on = passed (Further xs (c .args .at)) (c .from-residual-in-Break-end-2 .result) (p .0) e (p .1) (p .2) tt;
+    }
 
 -- A formula in brackets, by the bracket that closes.
 bracketed : (xs : List ℕ) (at depth mid end : ℕ) (k : Bracket) (f : Formula) → depth ≤ 16 →
@@ -119,9 +125,13 @@ inside-at-returns-in-Round t c =
     in let on = c .in-Continue-inside .ensures tt .on
     in let end = c .in-Continue-end-2 .ensures tt
     in record {
-      reads = (within k f, in-brackets xs (c .in-Continue-inside .inside .ways) k Round f (c .in-Round .is) (shows),
-        bracketed xs (c .args .at) (c .args .depth) (c .in-Continue-inside .inside .end) (c .in-Continue-end-2 .end) k f (c .pre .1) reads (end .reads));
-      on = (omega (arith, on .0, end .on .0), end .on .1) }
+      reads = (
+        within k f,
+        in-brackets xs (c .in-Continue-inside .inside .ways) k Round f (c .in-Round .is) (shows),
+        bracketed xs (c .args .at) (c .args .depth) (c .in-Continue-inside .inside .end) (c .in-Continue-end-2 .end) k f (c .pre .1) reads (end .reads),
+      );
+      on = (omega (arith, on .0, end .on .0), end .on .1);
+    }
 
 pub inside-at-returns-in-Brace : need.inside-at-returns-in-Brace
 unfolding ways
@@ -132,9 +142,13 @@ inside-at-returns-in-Brace t c =
     in let on = c .in-Continue-inside .ensures tt .on
     in let end = c .in-Continue-end-2 .ensures tt
     in record {
-      reads = (within k f, in-brackets xs (c .optional .result) k Brace f (c .in-Brace .is) (c .optional .ensures xs (ways f) shows),
-        bracketed xs (c .args .at) (c .args .depth) (c .in-Continue-inside .inside .end) (c .in-Continue-end-2 .end) k f (c .pre .1) reads (end .reads));
-      on = (omega (arith, on .0, end .on .0), end .on .1) }
+      reads = (
+        within k f,
+        in-brackets xs (c .optional .result) k Brace f (c .in-Brace .is) (c .optional .ensures xs (ways f) shows),
+        bracketed xs (c .args .at) (c .args .depth) (c .in-Continue-inside .inside .end) (c .in-Continue-end-2 .end) k f (c .pre .1) reads (end .reads),
+      );
+      on = (omega (arith, on .0, end .on .0), end .on .1);
+    }
 
 pub item-at-returns-in-Break-placed : need.item-at-returns-in-Break-placed
 item-at-returns-in-Break-placed t c =
@@ -143,16 +157,18 @@ item-at-returns-in-Break-placed t c =
     in let e = c .in-Break-placed .field-0 .0
     in record {
       reads = passed (Item-read xs (c .args .at) (c .args .depth)) (c .from-residual .result) (p .0) e (p .1) (p .2)
-        (λ b o h n. fails-there (wants b o) (cut-from xs (c .args .at)) (e .place) (e .refusal) (c .in-Break-placed .ensures tt .cuts));
-      on = passed (Further xs (c .args .at)) (c .from-residual .result) (p .0) e (p .1) (p .2) tt }
+          (λ b o h n. fails-there (wants b o) (cut-from xs (c .args .at)) (e .place) (e .refusal) (c .in-Break-placed .ensures tt .cuts));
+      on = passed (Further xs (c .args .at)) (c .from-residual .result) (p .0) e (p .1) (p .2) tt;
+    }
 
 pub item-at-returns-in-rest : need.item-at-returns-in-rest
 item-at-returns-in-rest t c =
     let xs = c .args .formula .now
     in record {
       reads = λ b o h n. wants-end b o (cut-from xs (c .args .at)) (length xs)
-        (c .in-Continue-placed .ensures tt .cuts ∙ ap (λ m. next-cut xs (Ok m)) (c .in-rest .is));
-      on = tt }
+          (c .in-Continue-placed .ensures tt .cuts ∙ ap (λ m. next-cut xs (Ok m)) (c .in-rest .is));
+      on = tt;
+    }
 
 pub item-at-returns-then-depth-ge-DEEPEST : need.item-at-returns-then-depth-ge-DEEPEST
 item-at-returns-then-depth-ge-DEEPEST t c =
@@ -161,7 +177,8 @@ item-at-returns-then-depth-ge-DEEPEST t c =
     in let q = next-is xs (c .args .at) (c .in-Continue-placed .field-0) p (open-with (c .in-Open .bracket)) (c .in-Continue-placed .ensures tt .cuts) (c .in-Some .is) (ap said (c .in-Open .is))
     in record {
       reads = λ b o h n. wants-too-deep b o (cut-from xs (c .args .at)) (p .at) (cut-from xs (p .end)) (c .in-Open .bracket) q (omega arith);
-      on = tt }
+      on = tt;
+    }
 
 pub item-at-returns-in-Connector : need.item-at-returns-in-Connector
 unfolding ways
@@ -174,9 +191,13 @@ item-at-returns-in-Connector t c =
     in let on = subst (λ o. found o (λ p. (c .args .at < p .end) × (p .end ≤ length xs) × Stands xs (p .at) p)) (c .in-Some .is) (c .in-Continue-placed .ensures tt .placed)
     in let same : n ≡ name-there xs (p .at) = on .2 .2 s n (ap said (c .in-Connector .is))
     in record {
-      reads = (named s n, subst (λ m. Shows xs (c .one .result) (asking s m ∷ [])) (sym same) (c .one .ensures xs),
-        λ b o h. wants-connector b o (cut-from xs (c .args .at)) (p .at) (cut-from xs (p .end)) s n q (omega (arith, c .pre .1)));
-      on = (on .0, on .1) }
+      reads = (
+        named s n,
+        subst (λ m. Shows xs (c .one .result) (asking s m ∷ [])) (sym same) (c .one .ensures xs),
+        λ b o h. wants-connector b o (cut-from xs (c .args .at)) (p .at) (cut-from xs (p .end)) s n q (omega (arith, c .pre .1)),
+      );
+      on = (on .0, on .1);
+    }
 
 -- An opening bracket, and what stands inside.
 opened : (xs : List ℕ) (at depth p end : ℕ) (k : Bracket) → cut-from xs at ≡ token p (open-with k) (cut-from xs end) → depth < 16 → at < end →
@@ -185,13 +206,19 @@ opened : (xs : List ℕ) (at depth p end : ℕ) (k : Bracket) → cut-from xs at
 unfolding open-depth
 opened xs at depth p end k q deep fwd (Ok r) (i, shows, reads) on =
     record {
-      reads = (i, shows, λ b o h.
-        wants-open b o (cut-from xs at) p (cut-from xs end) k q (omega arith) ∙ reads b o (omega arith));
-      on = (omega (arith, on .0), on .1) }
+      reads = (
+        i,
+        shows,
+        λ b o h.
+            wants-open b o (cut-from xs at) p (cut-from xs end) k q (omega arith) ∙ reads b o (omega arith),
+      );
+      on = (omega (arith, on .0), on .1);
+    }
 opened xs at depth p end k q deep fwd (Err e) reads on =
     record {
       reads = λ b o h n. wants-open b o (cut-from xs at) p (cut-from xs end) k q (omega arith) ∙ reads b o (omega arith);
-      on = tt }
+      on = tt;
+    }
 
 pub item-at-returns-else-depth-ge-DEEPEST : need.item-at-returns-else-depth-ge-DEEPEST
 item-at-returns-else-depth-ge-DEEPEST t c =
@@ -208,7 +235,8 @@ item-at-returns-in-rest-token t c =
     in let q = next-is xs (c .args .at) (c .in-Continue-placed .field-0) p (said (p .token)) (c .in-Continue-placed .ensures tt .cuts) (c .in-Some .is) refl
     in record {
       reads = λ b o h n. misplaced b o (cut-from xs (c .args .at)) (p .at) (cut-from xs (p .end)) (p .token) q n (c .in-rest-token .not-Open) (c .in-rest-token .not-Connector);
-      on = tt }
+      on = tt;
+    }
 
 pub more-of-returns-in-Break-placed : need.more-of-returns-in-Break-placed
 more-of-returns-in-Break-placed t c =
@@ -218,8 +246,9 @@ more-of-returns-in-Break-placed t c =
     in let e = c .in-Break-placed .field-0 .0
     in record {
       reads = passed (More-read xs w (c .args .depth)) (c .from-residual .result) (p .0) e (p .1) (p .2)
-        (λ f s o h. fails-there (has f o) (cut-from xs (w .end)) (e .place) (e .refusal) (c .in-Break-placed .ensures tt .cuts));
-      on = made-from-err (c .from-residual .result) _ (c .from-residual .ensures .0) }
+          (λ f s o h. fails-there (has f o) (cut-from xs (w .end)) (e .place) (e .refusal) (c .in-Break-placed .ensures tt .cuts));
+      on = made-from-err (c .from-residual .result) _ (c .from-residual .ensures .0);
+    }
 
 pub more-of-returns-then-not-goes-on : need.more-of-returns-then-not-goes-on
 more-of-returns-then-not-goes-on t c =
@@ -230,7 +259,8 @@ more-of-returns-then-not-goes-on t c =
     in let q = next-is xs (w .end) (c .in-Continue-placed .field-0) p (mark j) (c .in-Continue-placed .ensures tt .cuts) (c .in-Some .is) (ap said (c .in-Mark .is))
     in record {
       reads = λ f s. stopped f (cut-from xs (w .end)) (p .at) j (cut-from xs (p .end)) q (ap (λ k. goes k j) (sym (s .0)) ∙ sym (c .if-not-goes-on .ensures tt));
-      on = tt }
+      on = tt;
+    }
 
 pub more-of-returns-in-Break-item : need.more-of-returns-in-Break-item
 more-of-returns-in-Break-item t c =
@@ -243,11 +273,12 @@ more-of-returns-in-Break-item t c =
     in let e = c .in-Break-item .field-0 .0
     in record {
       reads = passed (More-read xs w (c .args .depth)) (c .from-residual-in-Break-item .result) (r .0) e (r .1) (r .2)
-        (λ f s o h.
+          (λ f s o h.
           let g : goes (joined-by f) j ≡ true = ap (λ k. goes k j) (sym (s .0)) ∙ sym (c .if-not-goes-on .ensures tt)
           in marked f o (cut-from xs (w .end)) (p .at) j (cut-from xs (p .end)) q g (omega (arith, c .pre .1))
           ∙ c .in-Break-item .ensures tt .reads (after j (items-in f)) o h (no-pair (after j (items-in f)) o (λ k. refl) (cut-from xs (p .end))));
-      on = made-from-err (c .from-residual-in-Break-item .result) _ (c .from-residual-in-Break-item .ensures .0) }
+      on = made-from-err (c .from-residual-in-Break-item .result) _ (c .from-residual-in-Break-item .ensures .0);
+    }
 
 pub more-of-returns : need.more-of-returns
 more-of-returns t c =
@@ -261,8 +292,11 @@ more-of-returns t c =
     in let further = c .in-Continue-item .ensures tt .on
     in record {
       reads = λ f s.
-        let g : goes (joined-by f) j ≡ true = ap (λ k. goes k j) (sym (s .0)) ∙ sym (c .if-not-goes-on .ensures tt)
-        in (row j (items-in f) i,
+          let g : goes (joined-by f) j ≡ true = ap (λ k. goes k j) (sym (s .0)) ∙ sym (c .if-not-goes-on .ensures tt)
+          in (
+            row j (items-in f) i,
             (refl, subst (λ ds. Shows xs (c .join .result) ds) (sym (ways-more f j i g)) (c .join .ensures xs (ways f) (item-ways i) (s .1) shows)),
-            λ o h. marked f o (cut-from xs (w .end)) (p .at) j (cut-from xs (p .end)) q g (omega (arith, c .pre .1)) ∙ reads (after j (items-in f)) o h);
-      on = (omega (arith, on .0, further .0), further .1) }
+            λ o h. marked f o (cut-from xs (w .end)) (p .at) j (cut-from xs (p .end)) q g (omega (arith, c .pre .1)) ∙ reads (after j (items-in f)) o h,
+          );
+      on = (omega (arith, on .0, further .0), further .1);
+    }

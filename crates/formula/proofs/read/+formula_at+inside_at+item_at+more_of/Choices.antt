@@ -24,8 +24,8 @@ abbrev pub Inv-formula-at-loop-longer : given.InvT-formula-at-loop-longer
 Inv-formula-at-loop-longer l =
     (l .at < l .row .end) × (l .row .end ≤ length (l .formula))
     × ((f : Formula) × Stands-for (l .formula) (l .row) f
-      × ((o : Open) → open-depth o ≡ l .depth →
-        read (wants nothing o) (cut-from (l .formula) (l .at)) ≡ read (has f o) (cut-from (l .formula) (l .row .end))))
+    × ((o : Open) → open-depth o ≡ l .depth →
+    read (wants nothing o) (cut-from (l .formula) (l .at)) ≡ read (has f o) (cut-from (l .formula) (l .row .end))))
 
 abbrev pub μ-formula-at-loop-longer : given.MeasureT-formula-at-loop-longer
 μ-formula-at-loop-longer l = length (l .formula) - l .row .end

@@ -19,7 +19,7 @@ returns-in-Break-whole c =
     let xs = c .args .formula .now
     in let p = err-from-errBy (c .from-residual .result) (c .from-residual .ensures .1)
     in subst (Parsed xs) (sym (p .1 ∙ ap Err (p .2)))
-      (c .in-Break-whole .ensures tt .reads top refl (no-pair nothing top (λ k. refl) (cut-from xs 0)))
+    (c .in-Break-whole .ensures tt .reads top refl (no-pair nothing top (λ k. refl) (cut-from xs 0)))
 
 pub returns-in-Break-next : need.returns-in-Break-next
 unfolding open-depth
@@ -29,7 +29,7 @@ returns-in-Break-next c =
     in let e = c .in-Break-next .field-0 .0
     in let (f, shows, stops, reads) = c .in-Continue-whole .ensures tt .reads
     in subst (Parsed xs) (sym (p .1 ∙ ap Err (p .2)))
-      (reads top refl ∙ fails-there (has f top) (cut-from xs (c .in-Continue-whole .whole .end)) (e .place) (e .refusal) (c .in-Break-next .ensures tt .cuts))
+    (reads top refl ∙ fails-there (has f top) (cut-from xs (c .in-Continue-whole .whole .end)) (e .place) (e .refusal) (c .in-Break-next .ensures tt .cuts))
 
 pub returns-in-None : need.returns-in-None
 unfolding open-depth

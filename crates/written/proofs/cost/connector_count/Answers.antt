@@ -20,17 +20,20 @@ loop-k-again c =
     in let k = c .loop-k .k
     in let d = getD ts k (c .index-disjuncts-k .result)
     in let l : k < length ts = omega arith
-    in (omega (arith, c .loop-k .inv .0, d .left .few, d .right .few),
-        λ xs.
+    in (
+      omega (arith, c .loop-k .inv .0, d .left .few, d .right .few),
+      λ xs.
           let e = ap (λ ds. length (mentioned ds)) (held-more (disjunct-of xs) ts k (c .index-disjuncts-k .result) l)
-            ∙ mentioned-count (map (disjunct-of xs) (take k ts)) (disjunct-of xs d)
+          ∙ mentioned-count (map (disjunct-of xs) (take k ts)) (disjunct-of xs d)
           in let f = length-names xs (d .left)
           in let g = length-names xs (d .right)
-          in omega (arith, c .loop-k .inv .1 xs))
+          in omega (arith, c .loop-k .inv .1 xs),
+    )
 
 pub returns : need.returns
 returns c =
     let e : c .loop-k .k ≡ c .args .disjuncts .now .len = omega arith
     in record {
       value = λ xs. c .loop-k .inv .1 xs ∙ ap (λ n. length (mentioned (map (disjunct-of xs) (take n (c .args .disjuncts .now .items))))) e;
-      bound = omega (arith, c .loop-k .inv .0, c .args .disjuncts .now .few) }
+      bound = omega (arith, c .loop-k .inv .0, c .args .disjuncts .now .few);
+    }

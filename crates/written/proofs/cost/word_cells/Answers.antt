@@ -14,4 +14,5 @@ returns c =
     in let e = takes-split 4 ws
     in record {
       value = omega (arith, c .word-count .ensures, c .word-bytes .ensures);
-      bound = omega (arith, c .word-count .ensures, c .word-bytes .ensures) }
+      bound = omega (arith, c .word-count .ensures, c .word-bytes .ensures);
+    }

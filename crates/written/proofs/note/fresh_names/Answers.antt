@@ -23,13 +23,15 @@ loop-k-again c =
     in let ks = known (c .args .cells .now) (c .args .used)
     in let ms = mentioned (map (disjunct-of xs) (take k ts))
     in let l : k < length ts = omega arith
-    in (omega (arith, c .note-list .ensures .longer, c .note-list-in-loop-k .ensures .longer, c .loop-k .inv .0),
-        noted-more ks [] ms (names-of xs (d .left) ++ names-of xs (d .right)) (fresh-of xs (c .loop-k .fresh)) (fresh-of xs (c .note-list-in-loop-k .last .fresh))
+    in (
+      omega (arith, c .note-list .ensures .longer, c .note-list-in-loop-k .ensures .longer, c .loop-k .inv .0),
+      noted-more ks [] ms (names-of xs (d .left) ++ names-of xs (d .right)) (fresh-of xs (c .loop-k .fresh)) (fresh-of xs (c .note-list-in-loop-k .last .fresh))
           (c .loop-k .inv .1)
           (noted-more ks (fresh-of xs (c .loop-k .fresh)) (names-of xs (d .left)) (names-of xs (d .right)) (fresh-of xs (c .note-list .last .fresh)) (fresh-of xs (c .note-list-in-loop-k .last .fresh))
-            (c .note-list .ensures .names) (c .note-list-in-loop-k .ensures .names))
-        ∙ ap (fresh (ks ++ [])) (sym (ap mentioned (held-more (disjunct-of xs) ts k (c .index-disjuncts-k .result) l)
-          ∙ mentioned-push (map (disjunct-of xs) (take k ts)) (disjunct-of xs d))))
+          (c .note-list .ensures .names) (c .note-list-in-loop-k .ensures .names))
+          ∙ ap (fresh (ks ++ [])) (sym (ap mentioned (held-more (disjunct-of xs) ts k (c .index-disjuncts-k .result) l)
+          ∙ mentioned-push (map (disjunct-of xs) (take k ts)) (disjunct-of xs d))),
+    )
 
 pub returns : need.returns
 returns c =

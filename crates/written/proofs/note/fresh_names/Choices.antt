@@ -11,4 +11,4 @@ abbrev pub Inv-loop-k : given.InvT-loop-k
 Inv-loop-k l =
     (l .fresh .len ≤ 16 * l .k)
     × (fresh-of (l .formula) (l .fresh)
-      ≡ [] ++ fresh (known (l .cells) (l .used) ++ []) (mentioned (map (disjunct-of (l .formula)) (take (l .k) (l .disjuncts .items)))))
+    ≡ [] ++ fresh (known (l .cells) (l .used) ++ []) (mentioned (map (disjunct-of (l .formula)) (take (l .k) (l .disjuncts .items)))))

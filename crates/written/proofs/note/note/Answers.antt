@@ -21,8 +21,9 @@ returns-then-not-met c =
     in let ks = known (c .args .cells .now) (c .args .used)
     in record {
       names = c .push .ensures .names xs
-        ∙ sym (noted-one ks fs (name-there xs (c .args .place)) false (at-name (c .name-at .result .now) _ ks fs false (c .name-at .ensures) (c .if-not-met .ensures tt)));
-      longer = omega (arith, c .push .ensures .longer) }
+          ∙ sym (noted-one ks fs (name-there xs (c .args .place)) false (at-name (c .name-at .result .now) _ ks fs false (c .name-at .ensures) (c .if-not-met .ensures tt)));
+      longer = omega (arith, c .push .ensures .longer);
+    }
 
 pub returns-else-not-met : need.returns-else-not-met
 returns-else-not-met c =
@@ -31,4 +32,5 @@ returns-else-not-met c =
     in let ks = known (c .args .cells .now) (c .args .used)
     in record {
       names = sym (noted-one ks fs (name-there xs (c .args .place)) true (at-name (c .name-at .result .now) _ ks fs true (c .name-at .ensures) (c .if-not-met .ensures tt)));
-      longer = omega arith }
+      longer = omega arith;
+    }

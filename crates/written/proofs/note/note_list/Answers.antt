@@ -22,7 +22,9 @@ loop-i-again c =
     in let l : i < length ps = omega arith
     in let fs = fresh-of xs (c .args .fresh .now)
     in let ks = known (c .args .cells .now) (c .args .used)
-    in (omega (arith, c .note .ensures .longer, c .loop-i .inv .0),
-        noted-more ks fs (map (name-there xs) (take i ps)) (name-there xs (getD ps i 0) ∷ []) (fresh-of xs (c .loop-i .fresh)) (fresh-of xs (c .note .last .fresh))
+    in (
+      omega (arith, c .note .ensures .longer, c .loop-i .inv .0),
+      noted-more ks fs (map (name-there xs) (take i ps)) (name-there xs (getD ps i 0) ∷ []) (fresh-of xs (c .loop-i .fresh)) (fresh-of xs (c .note .last .fresh))
           (c .loop-i .inv .1) (c .note .ensures .names)
-        ∙ ap (λ ns. fs ++ fresh (ks ++ fs) ns) (sym (held-more (name-there xs) ps i 0 l)))
+          ∙ ap (λ ns. fs ++ fresh (ks ++ fs) ns) (sym (held-more (name-there xs) ps i 0 l)),
+    )

@@ -11,5 +11,5 @@ abbrev pub Inv-loop-i : given.InvT-loop-i
 Inv-loop-i l =
     (l .fresh .len ≤ l .entry .fresh .len + l .i)
     × (fresh-of (l .formula) (l .fresh)
-      ≡ fresh-of (l .formula) (l .entry .fresh)
-        ++ fresh (known (l .cells) (l .used) ++ fresh-of (l .formula) (l .entry .fresh)) (map (name-there (l .formula)) (take (l .i) (l .names .places))))
+    ≡ fresh-of (l .formula) (l .entry .fresh)
+    ++ fresh (known (l .cells) (l .used) ++ fresh-of (l .formula) (l .entry .fresh)) (map (name-there (l .formula)) (take (l .i) (l .names .places))))

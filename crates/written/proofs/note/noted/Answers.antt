@@ -24,18 +24,18 @@ more xs n f i m b h q e =
     let k = length-fresh xs f
     in at-drop-more (among n) (fresh-of xs f) i [] (omega arith)
     ∙ ap (λ v. same n v || among n (drop (i + 1) (fresh-of xs f)))
-      (read-at (name-there xs) (f .places) (f .len) i 0 [] h (omega arith) ∙ sym q)
+    (read-at (name-there xs) (f .places) (f .len) i 0 [] h (omega arith) ∙ sym q)
     ∙ ap (λ (u : Bool). u || among n (drop (i + 1) (fresh-of xs f))) (sym e)
 
 pub returns-then-same-bytes : need.returns-then-same-bytes
 returns-then-same-bytes c =
     sym (c .loop-i .inv ∙ more (c .args .formula .now) (c .args .name .now) (c .args .fresh .now) (c .loop-i .i) (c .name-at .result .now) true
-      (c .loop-i-test .taken) (c .name-at .ensures) (c .if-same-bytes .ensures tt))
+    (c .loop-i-test .taken) (c .name-at .ensures) (c .if-same-bytes .ensures tt))
 
 pub loop-i-again : need.loop-i-again
 loop-i-again c =
     c .loop-i .inv ∙ more (c .args .formula .now) (c .args .name .now) (c .args .fresh .now) (c .loop-i .i) (c .name-at .result .now) false
-      (c .loop-i-test .taken) (c .name-at .ensures) (c .if-same-bytes .ensures tt)
+    (c .loop-i-test .taken) (c .name-at .ensures) (c .if-same-bytes .ensures tt)
 
 pub returns : need.returns
 unfolding among

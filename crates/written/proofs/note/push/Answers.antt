@@ -11,5 +11,6 @@ returns c =
     let f = c .args .fresh .now
     in record {
       names = λ xs. ap (map (name-there xs)) (take-more-set (f .places) (f .len) (c .args .place) (omega arith))
-        ∙ map-push (name-there xs) (take (f .len) (f .places)) (c .args .place);
-      longer = refl }
+          ∙ map-push (name-there xs) (take (f .len) (f .places)) (c .args .place);
+      longer = refl;
+    }

@@ -31,10 +31,11 @@ returns-in-Break-parts c =
     in let p = err-from-errBy (c .from-residual .result) (c .from-residual .ensures .1)
     in record {
       answer = refused (cells-of d) (book d) (c .args .line .now) (c .from-residual .result) (p .0) (c .in-Break-parts .field-0 .0) (p .1) (p .2)
-        (formless (cells-of d) (book d) (c .args .line .now) (c .split .result) (c .in-Break-parts .field-0 .0) (c .split .ensures) (sym (c .of-line .ensures) ∙ c .in-Break-parts .was tt));
+          (formless (cells-of d) (book d) (c .args .line .now) (c .split .result) (c .in-Break-parts .field-0 .0) (c .split .ensures) (sym (c .of-line .ensures) ∙ c .in-Break-parts .was tt));
       left = untouched (d .page) (c .from-residual .result) (p .0) (p .1);
       numbers = one-number (store (now (d .page .table)) (d .page .used) (d .page .words)) (whole-known (store (now (d .page .table)) (d .page .used) (d .page .words)) (d .whole));
-      cells = refl }
+      cells = refl;
+    }
 
 pub returns-in-Break-disjuncts : need.returns-in-Break-disjuncts
 returns-in-Break-disjuncts c =
@@ -44,13 +45,14 @@ returns-in-Break-disjuncts c =
     in let parts = parts-good line (c .split .result) (c .in-Continue-parts .parts) (c .split .ensures) (sym (c .of-line .ensures) ∙ c .in-Continue-parts .was tt)
     in let e = c .in-Break-disjuncts .field-0 .0
     in let m = meant line (c .in-Continue-parts .parts) parts (c .meaning .result) (c .meaning .ensures .means)
-        ∙ ap (Rattle.std.specs.Results.mapped (disjuncts-of (now (c .in-Continue-parts .parts .formula))) (λ x. x)) (c .in-Break-disjuncts .was tt)
+    ∙ ap (Rattle.std.specs.Results.mapped (disjuncts-of (now (c .in-Continue-parts .parts .formula))) (λ x. x)) (c .in-Break-disjuncts .was tt)
     in record {
       answer = refused (cells-of d) (book d) line (c .from-residual-in-Break-disjuncts .result) (p .0) (Rattle.written.specs.Faults.of-formula e) (p .1) (p .2)
-        (faulty (cells-of d) (book d) line (parts .0) e m);
+          (faulty (cells-of d) (book d) line (parts .0) e m);
       left = untouched (d .page) (c .from-residual-in-Break-disjuncts .result) (p .0) (p .1);
       numbers = one-number (store (now (d .page .table)) (d .page .used) (d .page .words)) (whole-known (store (now (d .page .table)) (d .page .used) (d .page .words)) (d .whole));
-      cells = refl }
+      cells = refl;
+    }
 
 pub enter-requires : need.enter-requires
 unfolding page-store
@@ -60,13 +62,16 @@ enter-requires c κs =
     in let parts = parts-good line (c .split .result) q (c .split .ensures) (sym (c .of-line .ensures) ∙ c .in-Continue-parts .was tt)
     in let t = c .in-Continue-disjuncts .disjuncts
     in let m = meant line q parts (c .meaning .result) (c .meaning .ensures .means)
-        ∙ ap (Rattle.std.specs.Results.mapped (disjuncts-of (now (q .formula))) (λ x. x)) (c .in-Continue-disjuncts .was tt)
+    ∙ ap (Rattle.std.specs.Results.mapped (disjuncts-of (now (q .formula))) (λ x. x)) (c .in-Continue-disjuncts .was tt)
     in let good = names-good line q parts (λ i. omega (arith, c .typed .line i)) (disjuncts-of (now (q .formula)) t) m
     in record {
-      roomy = c .args .self .now .roomy; few = c .args .self .now .few; whole = c .args .self .now .whole;
+      roomy = c .args .self .now .roomy;
+      few = c .args .self .now .few;
+      whole = c .args .self .now .whole;
       good = good-pieces line q parts;
       short = λ k i s. good k i s .0;
-      bytes = λ k i s. good k i s .1 }
+      bytes = λ k i s. good k i s .1;
+    }
 
 pub ghost-self : need.ghost-self
 unfolding page-store
@@ -82,11 +87,12 @@ returns c =
     in let t = c .in-Continue-disjuncts .disjuncts
     in let ds = disjuncts-of (now (q .formula)) t
     in let m = meant line q parts (c .meaning .result) (c .meaning .ensures .means)
-        ∙ ap (Rattle.std.specs.Results.mapped (disjuncts-of (now (q .formula))) (λ x. x)) (c .in-Continue-disjuncts .was tt)
+    ∙ ap (Rattle.std.specs.Results.mapped (disjuncts-of (now (q .formula))) (λ x. x)) (c .in-Continue-disjuncts .was tt)
     in record {
       answer = read-well (cells-of d) (book d) line (parts .0) ds m
-        ∙ ap (λ ws. entered (cells-of d) (book d) (pieces 32 ws) ds) (sym (parts .1))
-        ∙ c .enter .ensures .answer;
+          ∙ ap (λ ws. entered (cells-of d) (book d) (pieces 32 ws) ds) (sym (parts .1))
+          ∙ c .enter .ensures .answer;
       left = c .enter .ensures .left;
       numbers = one-number (page-store (c .enter .last .self)) (whole-known (page-store (c .enter .last .self)) (c .enter .ensures .whole));
-      cells = ap (λ n. Prim.Native.Nat.min n 65535) (c .enter .ensures .len) }
+      cells = ap (λ n. Prim.Native.Nat.min n 65535) (c .enter .ensures .len);
+    }

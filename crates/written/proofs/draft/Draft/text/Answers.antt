@@ -82,12 +82,13 @@ returns-in-Break-in-text c =
     in let cut = next-line-is text (c .loop-from .from) (c .piece-end-end .result) (c .loop-from-test .taken) (c .piece-end-end .ensures .within) (c .piece-end-end .ensures .clear) (c .piece-end-end .ensures .stops)
     in record {
       answer = c .loop-from .inv .2 ∙ ap (texted (cells-of was) (c .loop-from .before + 1) (book was)) cut
-        ∙ line-refused (cells-of was) (c .loop-from .before + 1) (book was) (book now-d) (between (c .loop-from .from) (c .piece-end-end .result) text) (lines (drop (c .piece-end-end .result + 1) text)) (c .line .result) y (c .line .ensures .answer) carry
-        ∙ ap (λ (b : Book). record { book = b; fault = Some y }) eq
-        ∙ ap (λ (r : Result Unit Fault). record { book = book now-d; fault = errPart r }) (sym (p .1 ∙ ap Err (p .2)));
+          ∙ line-refused (cells-of was) (c .loop-from .before + 1) (book was) (book now-d) (between (c .loop-from .from) (c .piece-end-end .result) text) (lines (drop (c .piece-end-end .result + 1) text)) (c .line .result) y (c .line .ensures .answer) carry
+          ∙ ap (λ (b : Book). record { book = b; fault = Some y }) eq
+          ∙ ap (λ (r : Result Unit Fault). record { book = book now-d; fault = errPart r }) (sym (p .1 ∙ ap Err (p .2)));
       kept = (c .loop-from .inv .3 .0, (λ i. names-from 0 (take (same .1 i) (same .0 i))) ∙ c .loop-from .inv .3 .1);
       numbers = sound-numbers now-d;
-      cells = c .line .ensures .cells ∙ c .loop-from .inv .1 }
+      cells = c .line .ensures .cells ∙ c .loop-from .inv .1;
+    }
 
 pub loop-from-again : need.loop-from-again
 unfolding page-store
@@ -100,14 +101,18 @@ loop-from-again c =
     in let carry = sym (c .in-text .ensures) ∙ c .in-Continue-in-text .was tt
     in let cut = next-line-is text (c .loop-from .from) end (c .loop-from-test .taken) (c .piece-end-end .ensures .within) (c .piece-end-end .ensures .clear) (c .piece-end-end .ensures .stops)
     in let more = left-more (was .page) (now-d .page) (c .loop-from .before + 1) (c .line .result) (c .in-Continue-in-text .field-0) (c .line .ensures .left) carry
-    in (omega (arith, c .loop-from .inv .0, c .piece-end-end .ensures .within .0),
-        c .line .ensures .cells ∙ c .loop-from .inv .1,
-        c .loop-from .inv .2 ∙ ap (texted (cells-of was) (c .loop-from .before + 1) (book was)) cut
-        ∙ line-taken (cells-of was) (c .loop-from .before + 1) (book was) (book now-d) (between (c .loop-from .from) end text) (lines (drop (end + 1) text)) (c .line .result) (c .in-Continue-in-text .field-0) (c .line .ensures .answer) carry
-        ∙ ap (λ n. texted (cells-of was) n (book now-d) (lines (drop (end + 1) text))) (sym (add-one (c .loop-from .before + 1)))
-        ∙ ap (λ n. texted n (c .loop-from .before + 1 + 1) (book now-d) (lines (drop (end + 1) text))) (sym (c .line .ensures .cells)),
-        (c .loop-from .inv .3 .0 ++ more .0,
-         more .1 ∙ ap (λ ns. ns ++ more .0) (c .loop-from .inv .3 .1) ∙ append-assoc (model (drafted d) .names) (c .loop-from .inv .3 .0) (more .0)))
+    in (
+      omega (arith, c .loop-from .inv .0, c .piece-end-end .ensures .within .0),
+      c .line .ensures .cells ∙ c .loop-from .inv .1,
+      c .loop-from .inv .2 ∙ ap (texted (cells-of was) (c .loop-from .before + 1) (book was)) cut
+          ∙ line-taken (cells-of was) (c .loop-from .before + 1) (book was) (book now-d) (between (c .loop-from .from) end text) (lines (drop (end + 1) text)) (c .line .result) (c .in-Continue-in-text .field-0) (c .line .ensures .answer) carry
+          ∙ ap (λ n. texted (cells-of was) n (book now-d) (lines (drop (end + 1) text))) (sym (add-one (c .loop-from .before + 1)))
+          ∙ ap (λ n. texted n (c .loop-from .before + 1 + 1) (book now-d) (lines (drop (end + 1) text))) (sym (c .line .ensures .cells)),
+      (
+        c .loop-from .inv .3 .0 ++ more .0,
+        more .1 ∙ ap (λ ns. ns ++ more .0) (c .loop-from .inv .3 .1) ∙ append-assoc (model (drafted d) .names) (c .loop-from .inv .3 .0) (more .0),
+      ),
+    )
 
 pub returns : need.returns
 unfolding texted
@@ -115,7 +120,8 @@ returns c =
     let text = c .args .text .now
     in record {
       answer = c .loop-from .inv .2
-        ∙ ap (texted (cells-of (c .loop-from .self)) (c .loop-from .before + 1) (book (c .loop-from .self))) (lines-none text (c .loop-from .from) (c .loop-from-test .left));
+          ∙ ap (texted (cells-of (c .loop-from .self)) (c .loop-from .before + 1) (book (c .loop-from .self))) (lines-none text (c .loop-from .from) (c .loop-from-test .left));
       kept = c .loop-from .inv .3;
       numbers = sound-numbers (c .loop-from .self);
-      cells = c .loop-from .inv .1 }
+      cells = c .loop-from .inv .1;
+    }

@@ -13,7 +13,7 @@ Inv-loop-from l =
     (l .before ≤ l .from)
     × (cells-of (l .self) ≡ cells-of (l .entry .self))
     × (texted (cells-of (l .entry .self)) 1 (book (l .entry .self)) (lines (l .text))
-      ≡ texted (cells-of (l .self)) (l .before + 1) (book (l .self)) (lines (drop (l .from) (l .text))))
+    ≡ texted (cells-of (l .self)) (l .before + 1) (book (l .self)) (lines (drop (l .from) (l .text))))
     × ((more : List Named) × (model (drafted (l .self)) .names ≡ model (drafted (l .entry .self)) .names ++ more))
 
 abbrev pub μ-loop-from : given.MeasureT-loop-from

@@ -59,12 +59,18 @@ returns-then-knows c =
     let b = page-book (c .args .self .now)
     in let ws = pieces 32 (c .args .words .now)
     in let known : any-known (words-of (b .entries)) ws ≡ true = elim (c .then-knows .came) [
-        then-knows·by·then-knows w ↦ any-known-split (words-of (b .entries)) ws ∙ ap (λ u. u || any-known [] ws) (sym (w .if-knows .ensures tt)) |
-        then-knows·by·else-knows·then-repeats w ↦
-          any-known-split (words-of (b .entries)) ws ∙ ap (λ u. some-among (words-of (b .entries)) ws || u) (sym (w .if-repeats .ensures tt)) ∙ or-true (some-among (words-of (b .entries)) ws) ]
+      | then-knows·by·then-knows w ↦ any-known-split (words-of (b .entries)) ws ∙ ap (λ u. u || any-known [] ws) (sym (w .if-knows .ensures tt))
+      | then-knows·by·else-knows·then-repeats w ↦
+          any-known-split (words-of (b .entries)) ws ∙ ap (λ u. some-among (words-of (b .entries)) ws || u) (sym (w .if-repeats .ensures tt)) ∙ or-true (some-among (words-of (b .entries)) ws)
+    ]
     in record {
       answer = is-taken (limit (c .args .self .now .table .now)) b ws (disjuncts-of (c .args .formula .now) (c .args .disjuncts .now)) known;
-      left = (refl, refl, refl); len = refl; roomy = c .pre .roomy; few = c .pre .few; whole = c .pre .whole }
+      left = (refl, refl, refl);
+      len = refl;
+      roomy = c .pre .roomy;
+      few = c .pre .few;
+      whole = c .pre .whole;
+    }
 
 pub returns-then-word-count-self : need.returns-then-word-count-self
 returns-then-word-count-self c =
@@ -73,19 +79,24 @@ returns-then-word-count-self c =
     in let n = entry-count (c .args .self .now)
     in record {
       answer = is-many (limit (c .args .self .now .table .now)) b ws (disjuncts-of (c .args .formula .now) (c .args .disjuncts .now))
-        (known-by b ws false false (c .if-knows .ensures tt) (c .if-repeats .ensures tt)) (omega (arith, c .word-count .ensures, c .if-word-count-self .taken));
-      left = (refl, refl, refl); len = refl; roomy = c .pre .roomy; few = c .pre .few; whole = c .pre .whole }
+          (known-by b ws false false (c .if-knows .ensures tt) (c .if-repeats .ensures tt)) (omega (arith, c .word-count .ensures, c .if-word-count-self .taken));
+      left = (refl, refl, refl);
+      len = refl;
+      roomy = c .pre .roomy;
+      few = c .pre .few;
+      whole = c .pre .whole;
+    }
 
 -- The names that a line brings are good.
 module _ (ds : List (Disjunct Name)) (short : (k i : ℕ) (s : Side) → length (getD (side-of (getD ds k free) s) i []) ≤ 8)
-  (bytes : (k i : ℕ) (s : Side) (j : ℕ) → getD (getD (side-of (getD ds k free) s) i []) j 0 < 256) where
+    (bytes : (k i : ℕ) (s : Side) (j : ℕ) → getD (getD (side-of (getD ds k free) s) i []) j 0 < 256) where
   good-names : (k i : ℕ) (s : Side) → Named-ok (getD (side-of (getD ds k free) s) i [])
   good-names k i s = (short k i s, bytes k i s)
 
   good-fresh : (known : List Name) (i : ℕ) → Named-ok (getD (fresh known (mentioned ds)) i [])
   good-fresh known =
       all-at Named-ok [] (omega arith, λ j. omega arith) (fresh known (mentioned ds))
-        (fresh-all Named-ok known (mentioned ds) (all-mentioned Named-ok ds (named-from ds good-names)))
+      (fresh-all Named-ok known (mentioned ds) (all-mentioned Named-ok ds (named-from ds good-names)))
 
 pub cost-requires : need.cost-requires
 cost-requires c κs =
@@ -93,7 +104,8 @@ cost-requires c κs =
     in let good = good-fresh ds (c .pre .short) (c .pre .bytes) (page-book (c .args .self .now) .names)
     in record {
       words = (c .pre .good, omega (arith, c .word-count .ensures, c .if-word-count-self .left));
-      names = λ i. subst (λ (ns : List Name). length (getD ns i []) ≤ 8) (sym (c .unmet-fresh .ensures)) (good i .0) }
+      names = λ i. subst (λ (ns : List Name). length (getD ns i []) ≤ 8) (sym (c .unmet-fresh .ensures)) (good i .0);
+    }
 
 pub returns-then-cost-room : need.returns-then-cost-room
 returns-then-cost-room c =
@@ -103,8 +115,13 @@ returns-then-cost-room c =
     in let e : c .cost .result ≡ line-cost ws ds (fresh (b .names) (mentioned ds)) = c .cost .ensures ∙ ap (line-cost ws ds) (c .unmet-fresh .ensures)
     in record {
       answer = is-dear (limit (c .args .self .now .table .now)) b ws ds
-        (known-by b ws false false (c .if-knows .ensures tt) (c .if-repeats .ensures tt)) (omega (arith, e, c .room .ensures, c .if-cost-room .taken));
-      left = (refl, refl, refl); len = refl; roomy = c .pre .roomy; few = c .pre .few; whole = c .pre .whole }
+          (known-by b ws false false (c .if-knows .ensures tt) (c .if-repeats .ensures tt)) (omega (arith, e, c .room .ensures, c .if-cost-room .taken));
+      left = (refl, refl, refl);
+      len = refl;
+      roomy = c .pre .roomy;
+      few = c .pre .few;
+      whole = c .pre .whole;
+    }
 
 pub write-line-requires : need.write-line-requires
 write-line-requires c κs =
@@ -114,7 +131,8 @@ write-line-requires c κs =
       names = c .unmet-fresh .ensures;
       good = λ i. subst (λ (ns : List Name). length (getD ns i []) ≤ 8) (sym (c .unmet-fresh .ensures)) (good i .0);
       whole = whole-known (page-store (c .args .self .now)) (c .pre .whole) .1;
-      room = omega (arith, c .cost .ensures, c .room .ensures, c .if-cost-room .left) }
+      room = omega (arith, c .cost .ensures, c .room .ensures, c .if-cost-room .left);
+    }
 
 pub returns : need.returns
 returns c =
@@ -127,7 +145,7 @@ returns c =
     in let ds = disjuncts-of xs t
     in let new = known-by b ws false false (c .if-knows .ensures tt) (c .if-repeats .ensures tt)
     in let spent : taken (q .used) (q .words) ≡ with-words b ws ds .spent =
-        c .write-line .ensures .taken ∙ ap (λ ns. taken (p .used) (p .words) + line-cost ws ds ns) (c .unmet-fresh .ensures)
+    c .write-line .ensures .taken ∙ ap (λ ns. taken (p .used) (p .words) + line-cost ws ds ns) (c .unmet-fresh .ensures)
     in let e : c .cost .result ≡ line-cost ws ds (fresh (b .names) (mentioned ds)) = c .cost .ensures ∙ ap (line-cost ws ds) (c .unmet-fresh .ensures)
     in let n = entry-count p
     in let len = c .write-line .ensures .len
@@ -141,14 +159,17 @@ returns c =
     in let bytes = pieces-bytes 32 (c .args .words .now) (λ i. omega (arith, c .typed .words i))
     in let front : length (page-store q .front) ≡ q .used = front-length q (omega arith)
     in let room : length (with-line s ws ds .front) < MARK =
-        subst (λ (m : ℕ). m < MARK) (sym front ∙ ap (λ (v : Store). length (v .front)) made) (omega (arith, c .write-line .ensures .words))
+    subst (λ (m : ℕ). m < MARK) (sym front ∙ ap (λ (v : Store). length (v .front)) made) (omega (arith, c .write-line .ensures .words))
     in let names = good-names ds (c .pre .short) (c .pre .bytes)
     in let entries = stored.entries-after s whole ws ds few-ds (short-lists xs t) names bytes room
     in let after = stored.names-after s whole ws ds few-ds (short-lists xs t) names bytes room
     in let kept = stored.names-kept s whole ws ds few-ds (short-lists xs t) names bytes room
     in record {
       answer = is-entered (limit (now (p .table))) b ws ds new (omega (arith, spent)) (omega (arith, c .word-count .ensures, c .if-word-count-self .left, c .pre .few))
-        ∙ ap Ok (same-book (with-words b ws ds) (page-book q) (sym entries ∙ ap (λ v. model v .entries) (sym made)) (sym after ∙ ap names-of (sym made)) (sym spent));
+          ∙ ap Ok (same-book (with-words b ws ds) (page-book q) (sym entries ∙ ap (λ v. model v .entries) (sym made)) (sym after ∙ ap names-of (sym made)) (sym spent));
       left = (kept .0, ap (λ v. model v .names) made ∙ kept .1);
-      len = len; roomy = roomy; few = few;
-      whole = subst (λ v. ∥ Whole v ∥₁) (sym made) ∣ stored.whole-after s whole ws ds few-ds (short-lists xs t) names bytes room ∣₁ }
+      len = len;
+      roomy = roomy;
+      few = few;
+      whole = subst (λ v. ∥ Whole v ∥₁) (sym made) ∣ stored.whole-after s whole ws ds few-ds (short-lists xs t) names bytes room ∣₁;
+    }
