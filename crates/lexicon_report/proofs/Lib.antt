@@ -1,2 +1,3 @@
 mod Counted
 mod Listed
+mod Marked

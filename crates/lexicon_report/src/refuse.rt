@@ -1,5 +1,7 @@
+ghost use mathlib.Core.Path.{_≡_};
 ghost use Prim.Native.Nat.{_<_, _≤_};
 ghost use lib.ListN.{length};
+ghost use Rattle.lexicon_report.specs.Marks.{mark-end, of-a-mark};
 use crate::lines::formula_of;
 use crate::lines::line_at;
 use refusal::Refusal;
@@ -10,14 +12,17 @@ use std::io::Write;
 use written::pieces::piece_end;
 
 /// Whether a refusal is of what stands at a byte of a formula.
-fn is_of_a_mark(refusal: Refusal) -> bool {
+fn is_of_a_mark(refusal: Refusal) -> bool
+    ensures { λ r. ⌜ r ≡ of-a-mark refusal ⌝ }
+{
     matches!(refusal, Refusal::UnknownMark | Refusal::OutOfPlace | Refusal::TooDeep | Refusal::BadName)
 }
 
 /// Where the mark at a place ends: a connector at the next space or with the formula, any other after its byte.
 fn mark_end(formula: &[u8], place: usize) -> usize
     requires { ⌜ place < length (now formula) ⌝ }
-    ensures { λ r. ⌜ (place ≤ r) × (r ≤ length (now (formula .entry))) ⌝ }
+    ensures value { λ r. ⌜ r ≡ mark-end (now (formula .entry)) place ⌝ }
+    ensures within { λ r. ⌜ (place ≤ r) × (r ≤ length (now (formula .entry))) ⌝ }
 {
     match formula[place] {
         b'A'..=b'Z' => piece_end(formula, place, b' '),
