@@ -15,7 +15,10 @@ use written::pieces::piece_end;
 fn is_of_a_mark(refusal: Refusal) -> bool
     ensures { λ r. ⌜ r ≡ of-a-mark refusal ⌝ }
 {
-    matches!(refusal, Refusal::UnknownMark | Refusal::OutOfPlace | Refusal::TooDeep | Refusal::BadName)
+    matches!(
+        refusal,
+        Refusal::UnknownMark | Refusal::OutOfPlace | Refusal::TooDeep | Refusal::BadName
+    )
 }
 
 /// Where the mark at a place ends: a connector at the next space or with the formula, any other after its byte.
@@ -52,9 +55,16 @@ fn write_mark(out: &mut Vec<u8>, formula: &[u8], place: usize) -> io::Result<()>
 
 /// The line of a refusal: where it came, its number and message, and the mark that it is of.
 pub fn write_refusal(out: &mut Vec<u8>, fault: Fault, text: &[u8]) -> io::Result<()> {
-    let Fault { line, place, refusal } = fault;
+    let Fault {
+        line,
+        place,
+        refusal,
+    } = fault;
     let number = refusal.number();
-    write!(out, "refused: line {line}, place {place}: {number}: {refusal}")?;
+    write!(
+        out,
+        "refused: line {line}, place {place}: {number}: {refusal}"
+    )?;
     if line > 0 && is_of_a_mark(refusal) {
         write_mark(out, formula_of(line_at(text, line - 1)), place)?;
     }

@@ -25,7 +25,13 @@ fn write_letters(out: &mut Vec<u8>, cells: &[u16]) -> io::Result<()> {
 }
 
 /// The names of the connectors of a list, the nearest first.
-fn write_list(out: &mut Vec<u8>, dictionary: &Written, word: u16, disjunct: usize, side: Side) -> io::Result<()> {
+fn write_list(
+    out: &mut Vec<u8>,
+    dictionary: &Written,
+    word: u16,
+    disjunct: usize,
+    side: Side,
+) -> io::Result<()> {
     let len = dictionary.list_len(word, disjunct, side);
     if len == 0 {
         out.push(b'-')?;
@@ -40,7 +46,12 @@ fn write_list(out: &mut Vec<u8>, dictionary: &Written, word: u16, disjunct: usiz
     Ok(())
 }
 
-fn write_disjunct(out: &mut Vec<u8>, dictionary: &Written, word: u16, disjunct: usize) -> io::Result<()> {
+fn write_disjunct(
+    out: &mut Vec<u8>,
+    dictionary: &Written,
+    word: u16,
+    disjunct: usize,
+) -> io::Result<()> {
     out.push(b'\t')?;
     write_list(out, dictionary, word, disjunct, Side::Left)?;
     out.push(b'\t')?;
@@ -81,5 +92,8 @@ pub fn write_dictionary(out: &mut Vec<u8>, dictionary: &Written, text: &[u8]) ->
     let disjuncts = disjunct_count(dictionary);
     let names = dictionary.name_count();
     let cells = dictionary.cells();
-    writeln!(out, "lines {lines}, words {words}, disjuncts {disjuncts}, names {names}, cells {cells}")
+    writeln!(
+        out,
+        "lines {lines}, words {words}, disjuncts {disjuncts}, names {names}, cells {cells}"
+    )
 }

@@ -35,7 +35,7 @@ loop-from-again c =
       omega arith,
       omega arith,
       line-skipped (c .args .number) (c .loop-from .before) (lines (drop a xs)) (between a e xs) (lines (drop (e + 1) xs)) s (omega arith)
-      ∙ same,
+          ∙ same,
     )
 
 pub returns : need.returns

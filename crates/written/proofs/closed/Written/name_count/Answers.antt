@@ -18,11 +18,11 @@ loop-i-again c =
     let f : cell (take (w .used) T) i ≡ cell T i = front-cell T (w .used) i (omega arith) in
     let (few, sum) = c .loop-i .inv in
     elim (c .if-self-i .came) [
-      then-self-i v ↦
+      | then-self-i v ↦
           let m = count-mark (take (w .used) T) i (omega arith) (eq-eqb (cell (take (w .used) T) i) MARK (f ∙ v .if-self-i .taken)) in
           let k = v .count-is in
           (omega arith, omega arith)
-    | else-self-i v ↦
+      | else-self-i v ↦
           let m = count-other (take (w .used) T) i (omega arith) (ne-eqb (cell (take (w .used) T) i) MARK (λ e. v .if-self-i .left (sym f ∙ e))) in
           let k = v .count-is in
           (omega arith, omega arith)
