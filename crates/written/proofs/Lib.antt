@@ -18,5 +18,6 @@ pub mod Noted
 pub mod Numbers
 pub mod Renamed
 pub mod Stored
+pub mod Told
 pub mod Worded
 pub mod Words

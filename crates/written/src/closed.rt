@@ -4,6 +4,7 @@ ghost use Rattle.written.specs.Pages.{limit, store, taken};
 ghost use Rattle.written.specs.Store.{Whole};
 
 pub mod ask;
+pub mod tell;
 
 /// A dictionary that is written and closed: it only answers.
 #[derive(Drop)]

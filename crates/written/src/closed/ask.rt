@@ -63,7 +63,7 @@ impl<'t> Written<'t> {
     }
 
     /// Whether a number is that of a name.
-    fn is_name(&self, number: usize) -> bool
+    pub(crate) fn is_name(&self, number: usize) -> bool
         ensures value { λ r. ⌜ r ≡ eqb (cell (written (now (self .entry)) .front) number) 65535 ⌝ }
         ensures inside { λ r. ⌜ (r ≡ true → number + 2 + getD (now (now (self .entry) .table)) (number + 1) 0 ≤ length (now (now (self .entry) .table))) ⌝ }
         ensures held { λ r. ⌜ (r ≡ true → name-at (written (now (self .entry)) .front) number ≡ name-at (now (now (self .entry) .table)) number) ⌝ }
