@@ -1,4 +1,5 @@
 pub mod Cuts
+pub mod Examples
 pub mod Faults
 pub mod Formulas
 pub mod Meaning

@@ -1,5 +1,6 @@
 pub mod Costs
 pub mod Drafts
+pub mod Examples
 pub mod Faults
 pub mod Kept
 pub mod Lines
