@@ -20,7 +20,7 @@ fn list(out: &mut String, formula: &[u8], names: &Names) -> Result<(), AllocErro
 }
 
 /// A formula's disjuncts, each as its left names, `|` and its right names, ended by `;`; or its refusal and the place.
-pub fn formula(heap: Global, formula: &[u8]) -> Result<String, AllocError> {
+pub(crate) fn formula(heap: Global, formula: &[u8]) -> Result<String, AllocError> {
     let kept = match meaning(formula) {
         Ok(kept) => kept,
         Err(e) => return refusal(heap, e.refusal, e.place),
@@ -36,13 +36,13 @@ pub fn formula(heap: Global, formula: &[u8]) -> Result<String, AllocError> {
     Ok(out)
 }
 
-pub fn refusal(heap: Global, refusal: Refusal, place: usize) -> Result<String, AllocError> {
+pub(crate) fn refusal(heap: Global, refusal: Refusal, place: usize) -> Result<String, AllocError> {
     let number = refusal.number();
     format!(heap, "{number} at {place}")
 }
 
 /// `ok`, or the refusal of a line and the place.
-pub fn line(heap: Global, answer: Result<(), LineFault>) -> Result<String, AllocError> {
+pub(crate) fn line(heap: Global, answer: Result<(), LineFault>) -> Result<String, AllocError> {
     match answer {
         Ok(()) => String::from_str(heap, "ok"),
         Err(e) => refusal(heap, e.refusal, e.place),

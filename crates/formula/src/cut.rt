@@ -29,7 +29,7 @@ fn is(b: u8, letter: Letter) -> bool
 }
 
 /// Where a run of letters from `at` on ends.
-pub fn run_end(formula: &[u8], at: usize, letter: Letter) -> usize
+pub(crate) fn run_end(formula: &[u8], at: usize, letter: Letter) -> usize
     requires { ⌜ at ≤ length (now formula) ⌝ }
     ensures value { λ r. ⌜ r ≡ at + run (lettered letter) (drop at (now (formula .entry))) ⌝ }
     ensures within { λ r. ⌜ r ≤ length (now (formula .entry)) ⌝ }

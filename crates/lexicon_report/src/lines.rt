@@ -5,7 +5,7 @@ ghost use Rattle.written.specs.Lines.{formula-part, lines};
 use written::pieces::piece_end;
 
 /// How many lines a text has.
-pub fn line_count(text: &[u8]) -> usize
+pub(crate) fn line_count(text: &[u8]) -> usize
     ensures { λ r. ⌜ r ≡ length (lines (now (text .entry))) ⌝ }
 {
     let mut count = 0;
@@ -18,7 +18,7 @@ pub fn line_count(text: &[u8]) -> usize
 }
 
 /// A line of a text, counted from 0; nothing past the last line.
-pub fn line_at(text: &[u8], number: usize) -> &[u8]
+pub(crate) fn line_at(text: &[u8], number: usize) -> &[u8]
     ensures { λ r. ⌜ now r ≡ getD (lines (now (text .entry))) number [] ⌝ }
 {
     let mut before = 0;
@@ -35,7 +35,7 @@ pub fn line_at(text: &[u8], number: usize) -> &[u8]
 }
 
 /// The formula of a line: what stands behind its first tab.
-pub fn formula_of(line: &[u8]) -> &[u8]
+pub(crate) fn formula_of(line: &[u8]) -> &[u8]
     ensures { λ r. ⌜ now r ≡ formula-part (now (line .entry)) ⌝ }
 {
     let tab = piece_end(line, 0, b'\t');

@@ -54,7 +54,7 @@ fn write_mark(out: &mut Vec<u8>, formula: &[u8], place: usize) -> io::Result<()>
 }
 
 /// The line of a refusal: where it came, its number and message, and the mark that it is of.
-pub fn write_refusal(out: &mut Vec<u8>, fault: Fault, text: &[u8]) -> io::Result<()> {
+pub(crate) fn write_refusal(out: &mut Vec<u8>, fault: Fault, text: &[u8]) -> io::Result<()> {
     let Fault {
         line,
         place,

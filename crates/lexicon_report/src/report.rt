@@ -8,7 +8,7 @@ use written::draft::Draft;
 const CELLS: usize = 65535;
 
 /// What a text's dictionary holds, or why the text is refused.
-pub fn report(heap: Global, text: &[u8]) -> io::Result<Vec<u8>> {
+pub(crate) fn report(heap: Global, text: &[u8]) -> io::Result<Vec<u8>> {
     let mut table = vec![in heap; 0u16; CELLS]?;
     let mut out = Vec::new(heap);
     let mut draft = Draft::new(table.as_mut_slice());
