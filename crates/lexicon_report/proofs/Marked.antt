@@ -1,10 +1,10 @@
 -- Where a connector ends that is shown up to the next space.
-use mathlib.Core.Bool.{true, cond, not}
+use mathlib.Core.Bool.{true, cond, not, _&&_}
 use mathlib.Core.List.{List}
 use mathlib.Core.Path.{_≡_, sym, ap, _∙_}
 use Prim.Native.Nat.{ℕ, _+_, _-_, _≤_, _<_}
 use native.Mathlib.Omega.{arith}
-use lib.Dec.{eqb, leb}
+use lib.Dec.{eqb, leb, ltb}
 use lib.ListN.{length, drop, getD, length-drop}
 use Rattle.std.proofs.shelf.Lists.{getD-drop}
 use Rattle.std.proofs.shelf.Tests.{and-from, le-leb}
@@ -27,4 +27,4 @@ module _ (f : List ℕ) (p e : ℕ) (from : p ≤ e) (to : e ≤ length f) (clea
   connector-end a b =
       let c : capital (getD f p 0) ≡ true =
       and-from (leb 65 (getD f p 0)) (leb (getD f p 0) 90) (le-leb 65 (getD f p 0) a) (le-leb (getD f p 0) 90 b)
-      in at-space ∙ ap (λ t. p + cond t (run (λ x. not (eqb x 32)) (drop p f)) 1) (sym c)
+      in at-space ∙ ap (λ t. p + cond t (run (λ x. not (eqb x 32)) (drop p f)) (cond (eqb (getD f p 0) 111 && ltb (p + 1) (length f)) 2 1)) (sym c)

@@ -2,8 +2,8 @@
 use mathlib.Core.Bool.{Bool, cond, not, _&&_}
 use mathlib.Core.List.{List}
 use Prim.Native.Nat.{ℕ, _+_}
-use lib.Dec.{eqb, leb}
-use lib.ListN.{drop, getD}
+use lib.Dec.{eqb, leb, ltb}
+use lib.ListN.{drop, getD, length}
 use Rattle.refusal.specs.declared.Refusal.{Refusal}
 use Rattle.refusal.specs.Refusals.{number-of}
 use Rattle.formula.specs.Cuts.{capital, run}
@@ -12,7 +12,8 @@ use Rattle.formula.specs.Cuts.{capital, run}
 abbrev pub of-a-mark : Refusal → Bool
 of-a-mark r = leb 12 (number-of r) && leb (number-of r) 15
 
--- A connector begins with a capital and is shown up to the next space; any other mark is one byte.
+-- A connector begins with a capital and is shown up to the next space; `or` is two bytes, and any other mark is one.
 abbrev pub mark-end : List ℕ → ℕ → ℕ
 mark-end formula p =
-    p + cond (capital (getD formula p 0)) (run (λ b. not (eqb b 32)) (drop p formula)) 1
+    p + cond (capital (getD formula p 0)) (run (λ b. not (eqb b 32)) (drop p formula))
+    (cond (eqb (getD formula p 0) 111 && ltb (p + 1) (length formula)) 2 1)

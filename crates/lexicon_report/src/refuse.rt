@@ -21,7 +21,7 @@ fn is_of_a_mark(refusal: Refusal) -> bool
     )
 }
 
-/// Where the mark at a place ends: a connector at the next space or with the formula, any other after its byte.
+/// Where the mark at a place ends: a connector at the next space or with the formula, `or` after two bytes, any other after its one.
 fn mark_end(formula: &[u8], place: usize) -> usize
     requires { ⌜ place < length (now formula) ⌝ }
     ensures value { λ r. ⌜ r ≡ mark-end (now (formula .entry)) place ⌝ }
@@ -29,6 +29,7 @@ fn mark_end(formula: &[u8], place: usize) -> usize
 {
     match formula[place] {
         b'A'..=b'Z' => piece_end(formula, place, b' '),
+        b'o' if place + 1 < formula.len() => place + 2,
         _ => place + 1,
     }
 }
