@@ -80,7 +80,12 @@ pub fn cases<'a>(heap: Global, text: &'a str) -> Result<Vec<Case<'a>>, AnyError>
                 let (line, kind) = (i.saturating_add(1), kind_of(word)?);
                 let (given, last) = parts(kind, rest);
                 let answer = String::from_str(heap, last)?;
-                cases.push(Case { line, kind, given, answer })?;
+                cases.push(Case {
+                    line,
+                    kind,
+                    given,
+                    answer,
+                })?;
             }
         }
     }

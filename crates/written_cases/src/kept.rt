@@ -71,8 +71,16 @@ impl<'a, 'd, 't> Kept<'a, 'd, 't> {
 }
 
 /// Compares what a dictionary has of each line with the answer to it; `ends` has how many words there were after each case.
-pub fn compare_kept(judge: &mut Judge<'_>, written: &Written<'_>, cases: &[Case], ends: &[usize]) -> Result<(), AnyError> {
-    let mut kept = Kept { written, known: Vec::new(judge.heap()) };
+pub fn compare_kept(
+    judge: &mut Judge<'_>,
+    written: &Written<'_>,
+    cases: &[Case],
+    ends: &[usize],
+) -> Result<(), AnyError> {
+    let mut kept = Kept {
+        written,
+        known: Vec::new(judge.heap()),
+    };
     let mut first = 0;
     for (case, end) in cases.iter().zip(ends.iter()) {
         if matches!(case.kind, Kind::Line) {
