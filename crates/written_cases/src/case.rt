@@ -32,41 +32,40 @@ pub struct Case<'a> {
     pub line: usize,
     pub kind: Kind,
     pub given: &'a str,
-    pub answer: Vec<&'a str>,
+    pub answer: String,
 }
 
-/// A case that begins with a word, of which the rest of the row is given.
-fn read_case<'a>(
-    heap: Global,
-    line: usize,
-    word: &str,
-    rest: &'a str,
-) -> Result<Case<'a>, AnyError> {
-    let kind = match word {
-        "formula" => Kind::Formula,
-        "draft" => Kind::Draft,
-        "line" => Kind::Line,
-        "text" => Kind::Text,
-        "close" => Kind::Close,
-        "find" => Kind::Find,
-        "match" => Kind::Match,
-        _ => return Err("a row begins with an unknown word".into()),
+fn kind_of(word: &str) -> Result<Kind, AnyError> {
+    match word {
+        "formula" => Ok(Kind::Formula),
+        "draft" => Ok(Kind::Draft),
+        "line" => Ok(Kind::Line),
+        "text" => Ok(Kind::Text),
+        "close" => Ok(Kind::Close),
+        "find" => Ok(Kind::Find),
+        "match" => Ok(Kind::Match),
+        _ => Err("a row begins with an unknown word".into()),
+    }
+}
+
+/// What is given in a row, and the answer where it ends the same row.
+fn parts<'a>(kind: Kind, rest: &'a str) -> (&'a str, &'a str) {
+    match kind {
+        Kind::Find | Kind::Match => rest.rsplit_once(' ').unwrap_or((rest, "")),
+        _ => (rest, ""),
+    }
+}
+
+/// One row more of the last case's answer.
+fn add_answer(cases: &mut Vec<Case<'_>>, row: &str) -> Result<(), AnyError> {
+    let Some(case) = cases.last_mut() else {
+        return Err("an answer to nothing".into());
     };
-    let mut answer = Vec::new(heap);
-    let given = match kind {
-        Kind::Find | Kind::Match => {
-            let (given, last) = rest.rsplit_once(' ').unwrap_or((rest, ""));
-            answer.push(last)?;
-            given
-        }
-        _ => rest,
-    };
-    Ok(Case {
-        line,
-        kind,
-        given,
-        answer,
-    })
+    if !case.answer.is_empty() {
+        case.answer.push('\n')?;
+    }
+    case.answer.push_str(row)?;
+    Ok(())
 }
 
 /// The cases of a text, in order. Empty rows and rows that begin with `#` say nothing.
@@ -77,19 +76,20 @@ pub fn cases<'a>(heap: Global, text: &'a str) -> Result<Vec<Case<'a>>, AnyError>
         match word {
             "" | "#" => {}
             "ok" | "no" | "dis" => add_answer(&mut cases, row)?,
-            _ => cases.push(read_case(heap, i.saturating_add(1), word, rest)?)?,
+            _ => {
+                let (line, kind) = (i.saturating_add(1), kind_of(word)?);
+                let (given, last) = parts(kind, rest);
+                let answer = String::from_str(heap, last)?;
+                cases.push(Case {
+                    line,
+                    kind,
+                    given,
+                    answer,
+                })?;
+            }
         }
     }
     Ok(cases)
-}
-
-/// One row more of the last case's answer.
-fn add_answer<'a>(cases: &mut Vec<Case<'a>>, row: &'a str) -> Result<(), AnyError> {
-    let Some(case) = cases.last_mut() else {
-        return Err("an answer to nothing".into());
-    };
-    case.answer.push(row)?;
-    Ok(())
 }
 
 fn digit(b: u8) -> Result<u8, AnyError>

@@ -3,8 +3,9 @@ ghost use lib.ListN.{length};
 use crate::answer;
 use crate::case::Case;
 use crate::case::Kind;
+use crate::case::bytes;
+use crate::judge::Judge;
 use crate::kept::compare_kept;
-use crate::tally::Tally;
 use lexicon::dictionary::Dictionary;
 use std::error::AnyError;
 use written::closed::Written;
@@ -24,81 +25,61 @@ fn closing(cases: &[Case]) -> usize
 }
 
 /// Gives a draft a line or a text.
-fn give(
-    rt: &LibcRuntime,
-    tally: &mut Tally,
-    draft: &mut Draft<'_>,
-    case: &Case,
-) -> Result<(), AnyError> {
+fn give(judge: &mut Judge<'_>, draft: &mut Draft<'_>, case: &Case) -> Result<(), AnyError> {
+    let given = bytes(judge.heap(), case.given)?;
     let came = match case.kind {
-        Kind::Line => answer::to_line(rt.alloc(), draft, case)?,
-        Kind::Text => answer::to_text(rt.alloc(), draft, case)?,
+        Kind::Line => answer::to_line(judge.heap(), draft, given.as_slice())?,
+        Kind::Text => answer::to_text(judge.heap(), draft, given.as_slice())?,
         _ => return Err("a question to a draft that is not closed".into()),
     };
-    tally.judge(rt, case, came.as_slice())
+    judge.judge(case, came.as_str())
 }
 
-/// Asks a draft for a word that its dictionary is to be asked for.
-fn ask_early(
-    rt: &LibcRuntime,
-    tally: &mut Tally,
-    draft: &Draft<'_>,
-    case: &Case,
-) -> Result<(), AnyError> {
+/// Asks a draft for a word that its dictionary is asked for later.
+fn ask_early(judge: &mut Judge<'_>, draft: &Draft<'_>, case: &Case) -> Result<(), AnyError> {
     if !matches!(case.kind, Kind::Find) {
         return Ok(());
     }
-    let came = answer::to_early_find(rt.alloc(), draft, case)?;
-    tally.compare(rt, case, came.as_slice())
+    let word = bytes(judge.heap(), case.given)?;
+    let came = draft.find(word.as_slice()).to_string(judge.heap())?;
+    judge.compare(case, came.as_str())
 }
 
 /// Asks a dictionary.
-fn ask(
-    rt: &LibcRuntime,
-    tally: &mut Tally,
-    written: &Written<'_>,
-    case: &Case,
-) -> Result<(), AnyError> {
+fn ask(judge: &mut Judge<'_>, written: &Written<'_>, case: &Case) -> Result<(), AnyError> {
     let came = match case.kind {
         Kind::Close => return Ok(()),
-        Kind::Find => answer::to_find(rt.alloc(), written, case)?,
-        Kind::Match => answer::to_match(rt.alloc(), written, case)?,
+        Kind::Match => answer::to_match(judge.heap(), written, case.given)?,
+        Kind::Find => {
+            let word = bytes(judge.heap(), case.given)?;
+            written.find(word.as_slice()).to_string(judge.heap())?
+        }
         _ => return Err("something for a draft that is closed".into()),
     };
-    tally.judge(rt, case, came.as_slice())
+    judge.judge(case, came.as_str())
 }
 
 /// Runs the cases of a draft.
-pub fn run(
-    rt: &LibcRuntime,
-    tally: &mut Tally,
-    first: &Case,
-    cases: &[Case],
-) -> Result<(), AnyError> {
+pub fn run(judge: &mut Judge<'_>, first: &Case, cases: &[Case]) -> Result<(), AnyError> {
     let cells = first.given.parse::<usize>()?;
-    let mut table = vec![in rt.alloc(); 0u16; cells]?;
+    let mut table = vec![in judge.heap(); 0u16; cells]?;
     let mut draft = Draft::new(table.as_mut_slice());
-    let mut ends = Vec::new(rt.alloc());
+    let mut ends = Vec::new(judge.heap());
     let closing = closing(cases);
     for case in &cases[0..closing] {
-        give(rt, tally, &mut draft, case)?;
+        give(judge, &mut draft, case)?;
         ends.push(draft.words())?;
     }
     for case in &cases[closing..] {
-        ask_early(rt, tally, &draft, case)?;
+        ask_early(judge, &draft, case)?;
     }
     let words = draft.words();
     let written = draft.close();
     if written.words() != words {
-        tally.tell(
-            rt,
-            first,
-            "a dictionary with the words of its draft",
-            "one with others",
-        )?;
+        judge.tell(first, "a dictionary with other words than its draft")?;
     }
     for case in &cases[closing..] {
-        ask(rt, tally, &written, case)?;
+        ask(judge, &written, case)?;
     }
-    compare_kept(rt, tally, &written, &cases[0..closing], ends.as_slice())
+    compare_kept(judge, &written, &cases[0..closing], ends.as_slice())
 }

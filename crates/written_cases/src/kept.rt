@@ -1,6 +1,6 @@
 use crate::case::Case;
 use crate::case::Kind;
-use crate::tally::Tally;
+use crate::judge::Judge;
 use lexicon::dictionary::Dictionary;
 use lexicon::side::Side;
 use std::alloc::AllocError;
@@ -15,105 +15,79 @@ struct Numbered<'a> {
     number: u16,
 }
 
-/// Whether a name goes with a number, as far as others are known: equal names have equal numbers, and others differ.
-fn goes_with<'a>(
-    known: &mut Vec<Numbered<'a>>,
-    name: &'a str,
-    number: u16,
-) -> Result<bool, AllocError> {
-    for one in known.iter() {
-        if one.name == name || one.number == number {
-            return Ok(one.name == name && one.number == number);
-        }
-    }
-    known.push(Numbered { name, number })?;
-    Ok(true)
-}
-
-/// A disjunct of a word of a dictionary.
-#[derive(Drop)]
-struct Place<'d, 't> {
-    written: &'d Written<'t>,
+/// A disjunct of a word.
+#[derive(Clone, Copy)]
+struct Place {
     word: u16,
     disjunct: usize,
 }
 
-impl<'d, 't> Place<'d, 't> {
-    /// Whether a side has the connectors with some names.
-    fn has<'a>(
-        &self,
-        known: &mut Vec<Numbered<'a>>,
-        side: Side,
-        names: &'a str,
-    ) -> Result<bool, AllocError> {
-        let len = self.written.list_len(self.word, self.disjunct, side);
+/// A dictionary, with the names whose numbers are known.
+#[derive(Drop)]
+struct Kept<'a, 'd, 't> {
+    written: &'d Written<'t>,
+    known: Vec<Numbered<'a>>,
+}
+
+impl<'a, 'd, 't> Kept<'a, 'd, 't> {
+    /// Whether a name can have a number: equal names have equal numbers, and others differ.
+    fn goes_with(&mut self, name: &'a str, number: u16) -> Result<bool, AllocError> {
+        for one in self.known.iter() {
+            if one.name == name || one.number == number {
+                return Ok(one.name == name && one.number == number);
+            }
+        }
+        self.known.push(Numbered { name, number })?;
+        Ok(true)
+    }
+
+    /// Whether a side of a disjunct has the connectors with some names.
+    fn side_has(&mut self, at: Place, side: Side, names: &'a str) -> Result<bool, AllocError> {
+        let len = self.written.list_len(at.word, at.disjunct, side);
         if names == "-" {
             return Ok(len == 0);
         }
         for (i, name) in names.split(',').enumerate() {
-            let number = self.written.connector(self.word, self.disjunct, side, i);
-            if !goes_with(known, name, number)? {
+            let number = self.written.connector(at.word, at.disjunct, side, i);
+            if !self.goes_with(name, number)? {
                 return Ok(false);
             }
         }
         Ok(len == names.split(',').count())
     }
-}
 
-/// Whether a word has the disjuncts of an answer, which stand behind its first row.
-fn word_has<'a>(
-    written: &Written<'_>,
-    known: &mut Vec<Numbered<'a>>,
-    word: u16,
-    answer: &[&'a str],
-) -> Result<bool, AllocError> {
-    for (disjunct, row) in answer.iter().skip(1).enumerate() {
-        let (_, names) = row.split_once(' ').unwrap_or(("", ""));
-        let (left, right) = names.split_once(' ').unwrap_or(("", ""));
-        let place = Place {
-            written,
-            word,
-            disjunct,
-        };
-        if !place.has(known, Side::Left, left)? || !place.has(known, Side::Right, right)? {
-            return Ok(false);
+    /// Whether a word has the disjuncts of an answer, which stand behind its first row.
+    fn word_has(&mut self, word: u16, answer: &'a str) -> Result<bool, AllocError> {
+        for (disjunct, row) in answer.lines().skip(1).enumerate() {
+            let (_, names) = row.split_once(' ').unwrap_or(("", ""));
+            let (left, right) = names.split_once(' ').unwrap_or(("", ""));
+            let at = Place { word, disjunct };
+            if !self.side_has(at, Side::Left, left)? || !self.side_has(at, Side::Right, right)? {
+                return Ok(false);
+            }
         }
+        Ok(self.written.disjuncts(word) == answer.lines().skip(1).count())
     }
-    Ok(written.disjuncts(word) == answer.len().saturating_sub(1))
-}
-
-/// Compares what a dictionary has of a word with the answer to the line that defined it.
-fn compare_word<'a>(
-    rt: &LibcRuntime,
-    tally: &mut Tally,
-    written: &Written<'_>,
-    known: &mut Vec<Numbered<'a>>,
-    case: &Case<'a>,
-    word: usize,
-) -> Result<(), AnyError> {
-    let Ok(number) = u16::try_from(word) else {
-        return Err("a word past the last".into());
-    };
-    if word_has(written, known, number, case.answer.as_slice())? {
-        return Ok(());
-    }
-    tally.tell(rt, case, "these disjuncts in the dictionary", "others")
 }
 
 /// Compares what a dictionary has of each line with the answer to it; `ends` has how many words there were after each case.
 pub fn compare_kept(
-    rt: &LibcRuntime,
-    tally: &mut Tally,
+    judge: &mut Judge<'_>,
     written: &Written<'_>,
     cases: &[Case],
     ends: &[usize],
 ) -> Result<(), AnyError> {
-    let mut known = Vec::new(rt.alloc());
+    let mut kept = Kept {
+        written,
+        known: Vec::new(judge.heap()),
+    };
     let mut first = 0;
     for (case, end) in cases.iter().zip(ends.iter()) {
         if matches!(case.kind, Kind::Line) {
             for word in first..*end {
-                compare_word(rt, tally, written, &mut known, case, word)?;
+                if !kept.word_has(u16::try_from(word)?, case.answer.as_str())? {
+                    judge.tell(case, "a word with other disjuncts in the dictionary")?;
+                }
             }
         }
         first = *end;

@@ -1,7 +1,7 @@
-//! Runs the cases of the standard input through the library, and says which answers differ from those that stand there.
+//! Runs the cases of the standard input through the library, and tells which answers differ from those that stand there.
 //!
 //! - `case`: the cases and how they are written.
-//! - `tally`: how many cases of each kind there were, and how many answers were wrong.
+//! - `judge`: compares answers, and counts.
 //! - `answer`: answers as the input writes them.
 //! - `drafts`: the cases of one draft, and of the dictionary that closing makes of it.
 //! - `kept`: what the dictionary keeps of each line.
@@ -9,55 +9,52 @@
 mod answer;
 mod case;
 mod drafts;
+mod judge;
 mod kept;
-mod tally;
 
 use case::Case;
 use case::Kind;
+use case::bytes;
 use case::cases;
+use judge::Judge;
+use judge::TallyDisplay;
 use std::error::AnyError;
 use std::io;
-use tally::Tally;
-use tally::TallyDisplay;
 
-/// Runs the cases of one formula, or of one draft.
-fn run_section(rt: &LibcRuntime, tally: &mut Tally, section: &[Case]) -> Result<(), AnyError> {
+/// Runs the case of a formula, or the cases of a draft.
+fn run_section(judge: &mut Judge<'_>, section: &[Case]) -> Result<(), AnyError> {
     let Some((first, rest)) = section.split_first() else {
         return Ok(());
     };
     match first.kind {
-        Kind::Draft => drafts::run(rt, tally, first, rest),
+        Kind::Draft => drafts::run(judge, first, rest),
         Kind::Formula if rest.is_empty() => {
-            let came = answer::to_formula(rt.alloc(), first)?;
-            tally.judge(rt, first, &came)
+            let formula = bytes(judge.heap(), first.given)?;
+            let came = answer::to_formula(judge.heap(), formula.as_slice())?;
+            judge.judge(first, came.as_str())
         }
-        _ => Err("a case that no draft is there for".into()),
+        _ => Err("a case without a draft".into()),
     }
 }
 
-/// Runs all cases: a section begins with each formula and with each draft.
-fn run(rt: &LibcRuntime, cases: &[Case]) -> Result<Tally, AnyError> {
-    let mut tally = Tally::new();
+/// Runs all cases of the standard input, and prints the tally. A section begins with each formula and with each draft.
+fn run(rt: &LibcRuntime) -> Result<(), AnyError> {
+    let text = io::read_to_string(rt.alloc(), rt.stdin())?;
+    let cases = cases(rt.alloc(), text.as_str())?;
+    let mut judge = Judge::new(rt);
     let mut from = 0;
-    for (i, case) in cases.iter().enumerate() {
+    for (i, case) in cases.as_slice().iter().enumerate() {
         if matches!(case.kind, Kind::Formula | Kind::Draft) {
-            run_section(rt, &mut tally, &cases[from..i])?;
+            run_section(&mut judge, &cases.as_slice()[from..i])?;
             from = i;
         }
     }
-    run_section(rt, &mut tally, &cases[from..])?;
-    Ok(tally)
-}
-
-/// Runs the cases of the standard input, and prints the tally.
-fn run_input(rt: &LibcRuntime) -> Result<(), AnyError> {
-    let text = io::read_to_string(rt.alloc(), rt.stdin())?;
-    let cases = cases(rt.alloc(), text.as_str())?;
-    let tally = run(rt, cases.as_slice())?;
+    run_section(&mut judge, &cases.as_slice()[from..])?;
+    let tally = judge.tally();
     println!(rt, "{tally}")?;
     Ok(())
 }
 
 fn main(rt: LibcRuntime) -> Result<(), AnyError> {
-    rt.report(run_input(&rt))
+    rt.report(run(&rt))
 }
