@@ -83,7 +83,11 @@ fn disjunct_count(dictionary: &Written) -> usize
 }
 
 /// The words of a dictionary, and a last line with what the dictionary and its text count.
-pub(crate) fn write_dictionary(out: &mut Vec<u8>, dictionary: &Written, text: &[u8]) -> io::Result<()> {
+pub(crate) fn write_dictionary(
+    out: &mut Vec<u8>,
+    dictionary: &Written,
+    text: &[u8],
+) -> io::Result<()> {
     let words = dictionary.words();
     for word in 0..words {
         write_word(out, dictionary, word as u16)?;

@@ -60,7 +60,7 @@ fn way_count(formula: &[u8]) -> usize {
 }
 
 /// What a formula means, and how many ways it has.
-pub fn to_formula(heap: Global, formula: &[u8]) -> Result<String, AllocError> {
+pub(crate) fn to_formula(heap: Global, formula: &[u8]) -> Result<String, AllocError> {
     match meaning(formula) {
         Ok(disjuncts) => {
             let (ways, kept) = (way_count(formula), disjuncts.len);
@@ -87,7 +87,11 @@ fn to_taken(heap: Global, draft: &Draft<'_>, line: &[u8]) -> Result<String, Allo
 }
 
 /// What a draft says to a line. One that is refused leaves it as it was.
-pub fn to_line(heap: Global, draft: &mut Draft<'_>, line: &[u8]) -> Result<String, AllocError> {
+pub(crate) fn to_line(
+    heap: Global,
+    draft: &mut Draft<'_>,
+    line: &[u8],
+) -> Result<String, AllocError> {
     let (spent, words) = (draft.spent(), draft.words());
     let Err(fault) = draft.line(line) else {
         return to_taken(heap, draft, line);
@@ -99,7 +103,11 @@ pub fn to_line(heap: Global, draft: &mut Draft<'_>, line: &[u8]) -> Result<Strin
 }
 
 /// What a draft says to a text.
-pub fn to_text(heap: Global, draft: &mut Draft<'_>, text: &[u8]) -> Result<String, AllocError> {
+pub(crate) fn to_text(
+    heap: Global,
+    draft: &mut Draft<'_>,
+    text: &[u8],
+) -> Result<String, AllocError> {
     let taken = draft.text(text);
     let (spent, words) = (draft.spent(), draft.words());
     let Err(fault) = taken else {
@@ -110,7 +118,11 @@ pub fn to_text(heap: Global, draft: &mut Draft<'_>, text: &[u8]) -> Result<Strin
 }
 
 /// Whether two connectors match, as their six numbers name them.
-pub fn to_match(heap: Global, written: &Written<'_>, given: &str) -> Result<String, AnyError> {
+pub(crate) fn to_match(
+    heap: Global,
+    written: &Written<'_>,
+    given: &str,
+) -> Result<String, AnyError> {
     let numbers = numbers(heap, given)?;
     let [w, d, k, v, e, m] = numbers.as_slice() else {
         return Err("a match has six numbers".into());

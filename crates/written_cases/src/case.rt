@@ -69,7 +69,7 @@ fn add_answer(cases: &mut Vec<Case<'_>>, row: &str) -> Result<(), AnyError> {
 }
 
 /// The cases of a text, in order. Empty rows and rows that begin with `#` say nothing.
-pub fn cases<'a>(heap: Global, text: &'a str) -> Result<Vec<Case<'a>>, AnyError> {
+pub(crate) fn cases<'a>(heap: Global, text: &'a str) -> Result<Vec<Case<'a>>, AnyError> {
     let mut cases = Vec::new(heap);
     for (i, row) in text.lines().enumerate() {
         let (word, rest) = row.split_once(' ').unwrap_or((row, ""));
@@ -103,7 +103,7 @@ fn digit(b: u8) -> Result<u8, AnyError>
 }
 
 /// The bytes that are written in hex.
-pub fn bytes(heap: Global, hex: &str) -> Result<Vec<u8>, AnyError> {
+pub(crate) fn bytes(heap: Global, hex: &str) -> Result<Vec<u8>, AnyError> {
     let mut bytes = Vec::new(heap);
     if hex == "-" {
         return Ok(bytes);
@@ -118,7 +118,7 @@ pub fn bytes(heap: Global, hex: &str) -> Result<Vec<u8>, AnyError> {
 }
 
 /// The numbers that are parted by single spaces.
-pub fn numbers(heap: Global, text: &str) -> Result<Vec<u16>, AnyError> {
+pub(crate) fn numbers(heap: Global, text: &str) -> Result<Vec<u16>, AnyError> {
     let mut numbers = Vec::new(heap);
     for field in text.split(' ') {
         numbers.push(field.parse::<u16>()?)?;

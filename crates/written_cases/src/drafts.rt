@@ -60,7 +60,7 @@ fn ask(judge: &mut Judge<'_>, written: &Written<'_>, case: &Case) -> Result<(), 
 }
 
 /// Runs the cases of a draft.
-pub fn run(judge: &mut Judge<'_>, first: &Case, cases: &[Case]) -> Result<(), AnyError> {
+pub(crate) fn run(judge: &mut Judge<'_>, first: &Case, cases: &[Case]) -> Result<(), AnyError> {
     let cells = first.given.parse::<usize>()?;
     let mut table = vec![in judge.heap(); 0u16; cells]?;
     let mut draft = Draft::new(table.as_mut_slice());

@@ -23,21 +23,21 @@ pub struct Judge<'r> {
 }
 
 impl<'r> Judge<'r> {
-    pub fn new(rt: &'r LibcRuntime) -> Judge<'r> {
+    pub(crate) fn new(rt: &'r LibcRuntime) -> Judge<'r> {
         let tally = Tally::default();
         Judge { rt, tally }
     }
 
-    pub fn heap(&self) -> Global {
+    pub(crate) fn heap(&self) -> Global {
         self.rt.alloc()
     }
 
-    pub fn tally(&self) -> Tally {
+    pub(crate) fn tally(&self) -> Tally {
         self.tally
     }
 
     /// Tells a wrong answer.
-    pub fn tell(&mut self, case: &Case, came: &str) -> Result<(), AnyError> {
+    pub(crate) fn tell(&mut self, case: &Case, came: &str) -> Result<(), AnyError> {
         self.tally.wrong = self.tally.wrong.saturating_add(1);
         let (line, expected) = (case.line, case.answer.as_str());
         println!(self.rt, "line {line}: expected {expected:?}, came {came:?}")?;
@@ -45,7 +45,7 @@ impl<'r> Judge<'r> {
     }
 
     /// Compares an answer with the expected one.
-    pub fn compare(&mut self, case: &Case, came: &str) -> Result<(), AnyError> {
+    pub(crate) fn compare(&mut self, case: &Case, came: &str) -> Result<(), AnyError> {
         if case.answer.as_str() != came {
             self.tell(case, came)?;
         }
@@ -53,7 +53,7 @@ impl<'r> Judge<'r> {
     }
 
     /// Counts a case, and compares its answer with the expected one.
-    pub fn judge(&mut self, case: &Case, came: &str) -> Result<(), AnyError> {
+    pub(crate) fn judge(&mut self, case: &Case, came: &str) -> Result<(), AnyError> {
         let tally = &mut self.tally;
         match case.kind {
             Kind::Formula => tally.formulas = tally.formulas.saturating_add(1),

@@ -71,7 +71,7 @@ impl<'a, 'd, 't> Kept<'a, 'd, 't> {
 }
 
 /// Compares what a dictionary has of each line with the answer to it; `ends` has how many words there were after each case.
-pub fn compare_kept(
+pub(crate) fn compare_kept(
     judge: &mut Judge<'_>,
     written: &Written<'_>,
     cases: &[Case],
