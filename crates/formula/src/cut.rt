@@ -142,7 +142,7 @@ fn in_place<T>(place: usize, found: Result<T, Refusal>) -> Result<T, FormulaFaul
 }
 
 /// The next token from a place on, or none at the formula's end.
-pub fn next<'a>(formula: &'a [u8], from: usize) -> Result<Option<Placed<'a>>, FormulaFault>
+pub(crate) fn next<'a>(formula: &'a [u8], from: usize) -> Result<Option<Placed<'a>>, FormulaFault>
     requires { ⌜ from ≤ length (now formula) ⌝ }
     ensures cuts { λ r. ⌜ cut-from (now (formula .entry)) from ≡ next-cut (now (formula .entry)) r ⌝ }
     ensures placed { λ r. ⌜ made r (λ o. found o (λ p. (from < p .end) × (p .end ≤ length (now (formula .entry))) × Stands (now (formula .entry)) (p .at) p)) ⌝ }

@@ -109,7 +109,7 @@ fn no_disjuncts() -> Disjuncts
 }
 
 /// The disjuncts of a formula, from its ways: of equal ones the first is kept.
-pub fn disjuncts(formula: &[u8], ways: &Ways) -> Result<Disjuncts, Refusal>
+pub(crate) fn disjuncts(formula: &[u8], ways: &Ways) -> Result<Disjuncts, Refusal>
     ensures { λ r. ⌜ ((ds : List (Asking Name)) → Shows (now (formula .entry)) (now (ways .entry)) ds → mapped (disjuncts-of (now (formula .entry))) (λ e. e) r ≡ fitted ds) ⌝ }
 {
     let Ways::Listed(listing) = ways else {

@@ -160,7 +160,7 @@ fn single(way: Way) -> Ways
 }
 
 /// The one way of a connector whose name stands at a place.
-pub fn one(place: usize, side: Side) -> Ways
+pub(crate) fn one(place: usize, side: Side) -> Ways
     ensures { λ r. ⌜ ((xs : List ℕ) → Shows xs r (asking side (name-there xs place) ∷ [])) ⌝ }
 {
     let name = Half::Listed(Names {
@@ -180,7 +180,7 @@ pub fn one(place: usize, side: Side) -> Ways
 }
 
 /// The one way of an empty pair of brackets.
-pub fn empty() -> Ways
+pub(crate) fn empty() -> Ways
     ensures { λ r. ⌜ ((xs : List ℕ) → Shows xs r (free ∷ [])) ⌝ }
 {
     single(Way {
@@ -190,7 +190,7 @@ pub fn empty() -> Ways
 }
 
 /// The ways of two items that are joined. What has too many ways already does not get fewer, since no item has none.
-pub fn join(mark: Join, a: &Ways, b: &Ways) -> Ways
+pub(crate) fn join(mark: Join, a: &Ways, b: &Ways) -> Ways
     ensures { λ r. ⌜ ((xs : List ℕ) (ds es : List (Disjunct Name)) → Shows xs (now (a .entry)) ds → Shows xs (now (b .entry)) es → Shows xs r (both mark ds es)) ⌝ }
 {
     let Ways::Listed(x) = a else {
@@ -206,7 +206,7 @@ pub fn join(mark: Join, a: &Ways, b: &Ways) -> Ways
 }
 
 /// The ways of what stands in braces: those inside, then the empty one.
-pub fn optional(inside: &Ways) -> Ways
+pub(crate) fn optional(inside: &Ways) -> Ways
     ensures { λ r. ⌜ ((xs : List ℕ) (ds : List (Disjunct Name)) → Shows xs (now (inside .entry)) ds → Shows xs r (ds ++ (free ∷ []))) ⌝ }
 {
     join(Join::Or, inside, &empty())

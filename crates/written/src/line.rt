@@ -63,7 +63,7 @@ pub fn split<'a>(line: &'a [u8]) -> Result<Parts<'a>, Refusal>
 }
 
 /// Whether two rows of bytes are the same.
-pub fn same_bytes(a: &[u8], b: &[u8]) -> bool
+pub(crate) fn same_bytes(a: &[u8], b: &[u8]) -> bool
     ensures { λ r. ⌜ r ≡ same (now (a .entry)) (now (b .entry)) ⌝ }
 {
     a == b
@@ -85,7 +85,7 @@ fn stands_from(words: &[u8], from: usize, word: &[u8]) -> bool
 }
 
 /// Whether one of some words stands twice.
-pub fn repeats(words: &[u8]) -> bool
+pub(crate) fn repeats(words: &[u8]) -> bool
     ensures { λ r. ⌜ r ≡ any-known [] (pieces 32 (now (words .entry))) ⌝ }
 {
     let mut from = 0;
@@ -100,7 +100,7 @@ pub fn repeats(words: &[u8]) -> bool
 }
 
 /// How many words there are.
-pub fn word_count(words: &[u8]) -> usize
+pub(crate) fn word_count(words: &[u8]) -> usize
     ensures { λ r. ⌜ r ≡ length (pieces 32 (now (words .entry))) ⌝ }
 {
     let mut count = 0;
@@ -113,7 +113,7 @@ pub fn word_count(words: &[u8]) -> usize
 }
 
 /// How many bytes the words have without the spaces between them.
-pub fn word_bytes(words: &[u8]) -> usize
+pub(crate) fn word_bytes(words: &[u8]) -> usize
     ensures { λ r. ⌜ r ≡ length (word-cells (pieces 32 (now (words .entry)))) ⌝ }
 {
     words.len() + 1 - word_count(words)
