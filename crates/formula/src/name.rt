@@ -17,7 +17,7 @@ fn name_end(formula: &[u8], place: usize) -> usize
     )
 }
 
-/// The name that stands at a place of a formula; past its end there is none, as where no capital stands.
+/// The capitals that stand at a place of a formula, with the small letters and stars behind them; none past its end.
 pub fn name_at(formula: &[u8], place: usize) -> &[u8]
     ensures { λ r. ⌜ now r ≡ name-there (now (formula .entry)) place ⌝ }
 {
