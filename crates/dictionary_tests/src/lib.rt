@@ -3,6 +3,8 @@
 //! - `shown`: a formula's disjuncts, and a draft's answer to a line, as text.
 //! - `refusals`, `chains`, `formulas`, `names`, `lines`: the examples.
 
+#![tactic(auto)]
+
 #[cfg(test)]
 mod chains;
 #[cfg(test)]

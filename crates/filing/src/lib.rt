@@ -6,6 +6,8 @@
 //! - `check`: the judge of filings.
 //! - `joins`: which positions links hold together, and how many parts they make.
 
+#![tactic(auto)]
+
 mod apart;
 pub mod check;
 mod choice;

@@ -1,5 +1,7 @@
 //! The folio: a sentence under work over one dictionary, and the calls on it.
 
+#![tactic(auto)]
+
 ghost use Rattle.std.specs.Prelude.{[], ◌≡◌, length};
 ghost use Rattle.linkage.specs.declared.call.Call.TheVariants.{Add, Drop, Change, Strike, Allow};
 ghost use Rattle.rows.specs.Answers.{added, changed, dropped, newly_allowed, newly_struck, standing_of, word_of};

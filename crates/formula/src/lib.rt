@@ -10,6 +10,8 @@
 //! - `meaning`: all of it, from bytes to disjuncts.
 //! - `fault`: a refusal with its place in the formula.
 
+#![tactic(auto)]
+
 pub mod cut;
 pub mod disjuncts;
 pub mod fault;

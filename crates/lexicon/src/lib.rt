@@ -4,6 +4,8 @@
 //! - `dictionary`: the questions.
 //! - `chain`: a dictionary that is computed from the sets of words that may follow each word.
 
+#![tactic(auto)]
+
 pub mod chain;
 pub mod dictionary;
 pub mod side;

@@ -5,6 +5,8 @@
 //! - `refuse`: the line of a refusal.
 //! - `lines`: the lines of a text and their formulas.
 
+#![tactic(auto)]
+
 use std::io;
 use std::io::{Read, Write};
 

@@ -4,6 +4,8 @@
 //! - `link`: a link between two positions.
 //! - `laws`: what the definitions are shown to mean.
 
+#![tactic(auto)]
+
 pub mod call;
 pub mod laws;
 pub mod link;

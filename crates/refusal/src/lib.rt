@@ -2,6 +2,8 @@
 //!
 //! - `fault`: a refusal with the line and the place where it came.
 
+#![tactic(auto)]
+
 ghost use Rattle.std.specs.Prelude.{◌≡◌};
 ghost use Rattle.refusal.specs.Refusals.{number_of};
 

@@ -4,6 +4,8 @@
 //! - `read`: what is asked of them.
 //! - `sets`: sets of disjuncts as numbers.
 
+#![tactic(auto)]
+
 ghost use Rattle.std.specs.Prelude.{◌≡◌, ◌≤◌, length};
 ghost use Rattle.linkage.specs.Ledgers.{most_words};
 

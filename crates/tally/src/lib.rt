@@ -3,6 +3,8 @@
 //! - `legal`, `ways`, `fewest`, `fewest_ways`: the four kinds, each with its values and below it, in `tally`, how they are made, read
 //!   and joined.
 
+#![tactic(auto)]
+
 ghost use Rattle.std.specs.Prelude.{◌≡◌, if◌then◌else◌};
 ghost use Rattle.tally.specs.Semiring.{Semiring, Laws, Tells};
 

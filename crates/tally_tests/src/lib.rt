@@ -1,5 +1,7 @@
 //! Tests of the four tallies on worked examples: one module for each, and `shown`, their values as text.
 
+#![tactic(auto)]
+
 #[cfg(test)]
 mod fewest;
 #[cfg(test)]

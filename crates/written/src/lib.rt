@@ -10,6 +10,8 @@
 //! - `fault`: a refusal with its place in a line.
 //! - `draft`, `closed`: a draft, and the dictionary that closing makes of it.
 
+#![tactic(auto)]
+
 mod cells;
 pub mod closed;
 mod cost;

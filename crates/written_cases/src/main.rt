@@ -6,6 +6,8 @@
 //! - `drafts`: the cases of one draft, and of the dictionary that closing makes of it.
 //! - `kept`: what the dictionary keeps of each line.
 
+#![tactic(auto)]
+
 mod answer;
 mod case;
 mod drafts;

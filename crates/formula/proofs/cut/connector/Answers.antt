@@ -50,9 +50,9 @@ returns-in-default c =
 pub returns : goal.returns
 returns c =
     let xs = c.args.formula.now
-    in let end = c.run-end-end.result
+    in let end = c.run_end-end.result
     in let at = c.args.at
-    in let ends = name_ends xs at c.requires.0 c.run-end.result c.run-end.ensures.value end c.run-end-end.ensures.value
+    in let ends = name_ends xs at c.requires.0 c.run_end.result c.run_end.ensures.value end c.run_end-end.ensures.value
     in let name = take (end - at) (drop at xs)
     in let s : signed name (get_or xs end 0) ≡ Ok (connector c.match-formula-end.side name) =
     elim c.match-formula-end.branch [
@@ -64,6 +64,6 @@ returns c =
     in let len = length-take-le (end - at) (drop at xs) k
     in let long : length name + 1 ≡ end - at + 1 = omega arith
     in record {
-      says = short xs at c.run-end.result end c.requires.0 c.requires.1 c.run-end.ensures.value c.run-end-end.ensures.value c.if-end-at-gt-LONGEST-NAME.false ∙ s;
+      says = short xs at c.run_end.result end c.requires.0 c.requires.1 c.run_end.ensures.value c.run_end-end.ensures.value c.if-end-at-gt-LONGEST_NAME.false ∙ s;
       placed = (refl, simp length-append (omega arith), λ s n e. let same : n ≡ name = cc in same ∙ ap (λ k. take k (drop at xs)) (omega arith));
     }

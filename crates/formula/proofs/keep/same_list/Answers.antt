@@ -23,7 +23,7 @@ returns-then-not-same-name c =
 pub loop-i-preserved : goal.loop-i-preserved
 loop-i-preserved c =
     c.loop-i.invariant ∙ same_more c.args.formula.now c.args.a.now c.args.b.now c.loop-i.i true
-    c.loop-i-test.true (omega arith) c.if-not-same-name.ensures
+    c.loop-i-test.true (omega arith) c.if-not-same_name.ensures
 
 pub returns : goal.returns
 returns c =

@@ -34,7 +34,7 @@ returns c xs =
     in let b = c.args.b.now
     in let p = length_names xs a
     in let q = length_names xs b
-    in let h = c.if-too-long.ensures
+    in let h = c.if-too_long.ensures
     in let e : c.loop-i.i ≡ b.len = omega arith
     in let t : places_of c.loop-i.both ≡ places_of a ++ places_of b =
     c.loop-i.invariant.1 ∙ ap (λ i. places_of a ++ take i b.places) e

@@ -19,15 +19,15 @@ returns-then-too-many c xs ds es f g =
 pub loop-i-init : goal.loop-i-init
 unfolding crossed
 loop-i-init c = (
-  c.no-ways-all.ensures ∙ sym (zero-mul c.args.b.now.len),
-  λ xs. ap (λ n. map (shown xs) (take n c.no-ways-all.result.items)) c.no-ways-all.ensures,
+  c.no_ways-all.ensures ∙ sym (zero-mul c.args.b.now.len),
+  λ xs. ap (λ n. map (shown xs) (take n c.no_ways-all.result.items)) c.no_ways-all.ensures,
 )
 
 pub spread-requires : goal.spread-requires
 spread-requires c =
     let n = c.args.b.now.len
     in let h : (c.loop-i.i + 1) * n ≤ c.args.a.now.len * n = mul-le-mul_right n (omega arith)
-    in omega (arith, more c.loop-i.i n, c.if-too-many.ensures)
+    in omega (arith, more c.loop-i.i n, c.if-too_many.ensures)
 
 pub loop-i-preserved : goal.loop-i-preserved
 loop-i-preserved c =
