@@ -1,8 +1,7 @@
 -- How a reading goes on by one token, from what comes next.
-use Rattle.std.proofs.Common.{◌≡◌, ℕ, suc, ◌<◌, ◌≤◌, Bool, true, false, cond, ltb, List, [], ◌∷◌, ◌++◌, Some, None, Ok, Err, Option, Result, sym, refl, ap, ◌∙◌, subst, arith, le-ltb, lt-ltb}
+use Rattle.std.proofs.Common.{◌≡◌, ℕ, suc, ◌<◌, ◌≤◌, true, false, cond, Some, None, Ok, Err, Result, sym, refl, ap, ◌∙◌, subst, arith, le-ltb, lt-ltb}
 use Rattle.refusal.specs.declared.Refusal.{Refusal}
 use Rattle.refusal.specs.declared.Refusal.TheVariants.{OutOfPlace, TooDeep}
-use Rattle.lexicon.specs.Lexicon.{Disjunct}
 use Rattle.lexicon.specs.declared.side.Side.{Side}
 use Rattle.formula.specs.declared.fault.FormulaFault.{FormulaFault}
 use Rattle.formula.specs.declared.token.Join.{Join}
@@ -13,10 +12,10 @@ use Rattle.formula.specs.Cuts.{Cut, ends, fails, token}
 use Rattle.formula.specs.Faults.{fault}
 use Rattle.formula.specs.Formulas.{Formula, one, row, Item, named, within, empty, Items, first, then}
 use Rattle.formula.specs.Progress.{goes, joined_by, Stopped, Unclosed, NoPair, NotEmpty}
-use Rattle.formula.specs.Reading.{Before, nothing, after, Open, top, inside, State, wants, has, add, close, close_empty, go_on, step}
-use Rattle.formula.specs.Reading.{open_depth, state_depth, finished, judged, read}
+use Rattle.formula.specs.Reading.{Before, nothing, after, Open, top, inside, State, wants, has, add, close_empty, go_on}
+use Rattle.formula.specs.Reading.{open_depth, state_depth, judged, read}
 use Rattle.formula.specs.Tokens.{Name, Word, mark, open_with, close_with, connector}
-use Rattle.formula.specs.Ways.{ways, item_ways, row_ways, joined}
+use Rattle.formula.specs.Ways.{ways, item_ways, joined}
 
 -- A step that stays within the depth is gone on from.
 shallow : (p : ℕ) (s : State) (rest : State → Result Formula FormulaFault) → state_depth s ≤ 16 → judged p (Some s) rest ≡ rest s

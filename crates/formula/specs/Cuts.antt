@@ -1,5 +1,5 @@
 -- How the bytes of a formula are cut into tokens, each with the place where it begins.
-use Rattle.std.specs.Prelude.{◌≡◌, ℕ, zero, suc, pred, ◌+◌, Bool, true, false, cond, ◌&&◌, ◌||◌, List, [], ◌∷◌, ◌++◌, length, take, drop, replicate, Some, None, Ok, Err, Option, Result, ◌==◌, ◌≢◌, nat_le, nat_lt, slice_index}
+use Rattle.std.specs.Prelude.{◌≡◌, ℕ, zero, suc, pred, ◌+◌, Bool, cond, ◌&&◌, ◌||◌, List, [], ◌∷◌, ◌++◌, length, take, drop, replicate, Some, None, Ok, Err, Option, Result, ◌==◌, ◌≢◌, nat_le, nat_lt, slice_index}
 use Rattle.lexicon.specs.declared.side.Side.{Side}
 use Rattle.lexicon.specs.declared.side.Side.TheVariants.{Left, Right}
 use Rattle.refusal.specs.declared.Refusal.{Refusal}

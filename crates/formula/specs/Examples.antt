@@ -1,6 +1,6 @@
 -- Worked examples: what some formulas mean, computed from the definitions.
-use Rattle.std.specs.Prelude.{◌≡◌, List, [], ◌∷◌, Ok, Err, codes, refl}
-use Rattle.refusal.specs.declared.Refusal.TheVariants.{UnknownMark, OutOfPlace, ManyWays}
+use Rattle.std.specs.Prelude.{◌≡◌, [], ◌∷◌, Ok, Err, codes, refl}
+use Rattle.refusal.specs.declared.Refusal.TheVariants.{UnknownMark, OutOfPlace}
 use Rattle.lexicon.specs.Lexicon.{free}
 use Rattle.formula.specs.Cuts.{cut_after, run}
 use Rattle.formula.specs.Faults.{fault}

@@ -6,7 +6,7 @@ use Rattle.std.specs.Prelude.{ℕ, ◌+◌, max, List, [], ◌∷◌, ◌++◌}
 use Rattle.lexicon.specs.declared.side.Side.{Side}
 use Rattle.formula.specs.declared.token.Join.{Join}
 use Rattle.formula.specs.declared.token.Bracket.{Bracket}
-use Rattle.formula.specs.declared.token.Bracket.TheVariants.{Round, Brace}
+use Rattle.formula.specs.declared.token.Bracket.TheVariants.{Round}
 use Rattle.formula.specs.Tokens.{Name, Word, mark, open_with, close_with, connector}
 
 mutual

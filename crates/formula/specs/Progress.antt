@@ -1,6 +1,6 @@
 -- What the readers of items and formulas promise each other: how far each takes the reading of the tokens, from whatever
 -- stands open before.
-use Rattle.std.specs.Prelude.{◌≡◌, ℕ, ◌<◌, ◌≤◌, Bool, true, false, List, [], length, Some, None, Ok, Err, Option, Result, ◌≢◌}
+use Rattle.std.specs.Prelude.{◌≡◌, ℕ, ◌<◌, ◌≤◌, Bool, true, false, List, length, Some, None, Ok, Err, Option, Result, ◌≢◌}
 use Rattle.refusal.specs.declared.Refusal.TheVariants.{OutOfPlace}
 use Rattle.formula.specs.declared.fault.FormulaFault.{FormulaFault}
 use Rattle.formula.specs.declared.row.Reading.{Reading}
@@ -12,10 +12,10 @@ use Rattle.formula.specs.declared.token.Bracket.TheVariants.{Round, Brace}
 use Rattle.formula.specs.declared.ways.Ways.{Ways}
 use Rattle.formula.specs.Cuts.{Cut, ends, fails, token, cut_from}
 use Rattle.formula.specs.Faults.{fault}
-use Rattle.formula.specs.Formulas.{Formula, one, row, Item, within, empty, Items}
+use Rattle.formula.specs.Formulas.{Formula, one, row, Item}
 use Rattle.formula.specs.Reading.{Before, nothing, Open, inside, wants, has, add, close_empty, go_on, open_depth, read, reading}
 use Rattle.formula.specs.Shown.{Shows}
-use Rattle.formula.specs.Tokens.{Word, mark, open_with, close_with, connector}
+use Rattle.formula.specs.Tokens.{mark, open_with, close_with, connector}
 use Rattle.formula.specs.Ways.{ways, item_ways}
 
 -- What was read lies within the bytes, and is something.

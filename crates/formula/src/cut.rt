@@ -124,7 +124,7 @@ fn token<'a>(formula: &'a [u8], at: usize) -> Result<Placed<'a>, Refusal>
 
 /// A token's refusal, with the place where the token begins.
 fn in_place<T>(place: usize, found: Result<T, Refusal>) -> Result<T, FormulaFault>
-    ensures { result ≡ carried (λ e. fault place e) IfSome }
+    ensures { result ≡ carried (λ e. fault place e) found }
 {
     match found {
         Ok(x) => Ok(x),

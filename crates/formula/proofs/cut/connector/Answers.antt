@@ -1,9 +1,8 @@
-use Rattle.std.proofs.Common.{◌≡◌, ℕ, ◌+◌, ◌-◌, ◌<◌, ◌≤◌, Bool, true, false, cond, eqb, ltb, ◌⊎◌, List, length, get_or, take, drop, Ok, Err, sym, refl, ap, ◌∙◌, ⊎_elim, arith, length-append, length-drop, length-take-le, le-ltb, lt-ltb, eq-eqb, ne_eqb}
+use Rattle.std.proofs.Common.{◌≡◌, ℕ, ◌+◌, ◌-◌, ◌<◌, ◌≤◌, true, cond, List, length, get_or, take, drop, Ok, Err, sym, refl, ap, ◌∙◌, ⊎_elim, arith, length-append, length-drop, length-take-le, le-ltb, lt-ltb}
 use Rattle.std.proofs.lemmas.List.{get_or_past}
 use Rattle.refusal.specs.declared.Refusal.TheVariants.{BadName}
-use Rattle.lexicon.specs.declared.side.Side.{Side}
-use Rattle.formula.specs.Cuts.{capital, name_length, token_at, signed, run, small}
-use Rattle.formula.specs.Tokens.{Name, connector, sign}
+use Rattle.formula.specs.Cuts.{capital, token_at, signed, run, small}
+use Rattle.formula.specs.Tokens.{connector}
 use Rattle.formula.proofs.Places.{name_ends, name_token_there, unsigned}
 use Rattle.formula.proofs.cut.connector.Goals as goal
 use Rattle.formula.proofs.cut.connector.Goals.{in-43, in-45}
@@ -21,28 +20,28 @@ module _ (xs : List ℕ) (at m end : ℕ) (h : at < length xs) (c : capital (get
       name_token_there xs at h c end (name_ends xs at h m p end q)
       ∙ ap (λ b. cond b (Err BadName) (signed (take (end - at) (drop at xs)) (get_or xs end 0))) (le-ltb 8 (end - at) l)
 
-pub returns-then-end-at-gt-LONGEST-NAME : goal.returns-then-end-at-gt-LONGEST-NAME
-returns-then-end-at-gt-LONGEST-NAME c =
+pub returns-then-end-at-gt-LONGEST_NAME : goal.returns-then-end-at-gt-LONGEST_NAME
+returns-then-end-at-gt-LONGEST_NAME c =
     let xs = c.args.formula.now
-    in let end = c.run-end-end.result
+    in let end = c.run_end-end.result
     in let at = c.args.at
     in record {
       says = ⊎_elim
-          (λ l. long xs at c.run-end.result end c.requires.0 c.requires.1 c.run-end.ensures.value c.run-end-end.ensures.value l)
-          (λ l. short xs at c.run-end.result end c.requires.0 c.requires.1 c.run-end.ensures.value c.run-end-end.ensures.value l.0
+          (λ l. long xs at c.run_end.result end c.requires.0 c.requires.1 c.run_end.ensures.value c.run_end-end.ensures.value l)
+          (λ l. short xs at c.run_end.result end c.requires.0 c.requires.1 c.run_end.ensures.value c.run_end-end.ensures.value l.0
           ∙ (let z : get_or xs end 0 ≡ 0 = get_or_past xs end 0 (omega arith)
           in ap (signed (take (end - at) (drop at xs))) z))
-          c.then-end-at-gt-LONGEST-NAME.either;
+          c.then-end-at-gt-LONGEST_NAME.either;
       placed = tt;
     }
 
-pub returns-in-default : goal.returns-in-default
-returns-in-default c =
+pub returns-in_default : goal.returns-in_default
+returns-in_default c =
     let xs = c.args.formula.now
-    in let end = c.run-end-end.result
+    in let end = c.run_end-end.result
     in let at = c.args.at
     in record {
-      says = short xs at c.run-end.result end c.requires.0 c.requires.1 c.run-end.ensures.value c.run-end-end.ensures.value c.if-end-at-gt-LONGEST-NAME.false
+      says = short xs at c.run_end.result end c.requires.0 c.requires.1 c.run_end.ensures.value c.run_end-end.ensures.value c.if-end-at-gt-LONGEST_NAME.false
           ∙ unsigned (take (end - at) (drop at xs)) (get_or xs end 0) (λ e. omega arith) (λ e. omega arith);
       placed = tt;
     }

@@ -1,4 +1,4 @@
-use Rattle.std.proofs.Common.{◌≡◌, sym, ◌∙◌, arith}
+use Rattle.std.proofs.Common.{sym, ◌∙◌, arith}
 use Rattle.formula.specs.Cuts.{lettered}
 use Rattle.formula.proofs.Places.{run_more, run_none, run_end}
 use Rattle.formula.proofs.cut.run_end.Goals as goal

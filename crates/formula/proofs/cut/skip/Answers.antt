@@ -1,4 +1,4 @@
-use Rattle.std.proofs.Common.{◌≡◌, ◌∙◌, arith, true-eqb}
+use Rattle.std.proofs.Common.{◌∙◌, arith, true-eqb}
 use Rattle.formula.proofs.Places.{space}
 use Rattle.formula.proofs.cut.skip.Goals as goal
 

@@ -7,14 +7,14 @@ use Rattle.formula.proofs.Kept.{fitted_few, kept_more, kept_of}
 use Rattle.formula.proofs.Tables.{length_shown}
 use Rattle.formula.proofs.keep.disjuncts.Goals as goal
 
-pub returns-in-default-whole : goal.returns-in-default-whole
-returns-in-default-whole c ds s =
+pub returns-in_default-whole : goal.returns-in_default-whole
+returns-in_default-whole c ds s =
     let xs = c.args.formula.now
     in let l = c.in-Listed.listing
     in let e : table xs l ≡ map clip ds = (subst (λ (w : Ways). Shows xs w ds) c.in-Listed.is s).1
     in sym (fitted_few xs l ds e ∙ c.loop-i.invariant.1 ds e
     ∙ kept_more xs l ds e c.loop-i.i c.loop-i-test.true (disjuncts_of xs c.loop-i.out) c.index-listing-i.result None
-    (λ d. c.in-default-whole.ensures xs d))
+    (λ d. c.in_default-whole.ensures xs d))
 
 pub loop-i-preserved : goal.loop-i-preserved
 loop-i-preserved c = (

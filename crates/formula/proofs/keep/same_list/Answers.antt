@@ -15,10 +15,10 @@ returns-then-a-b c =
     in let q = length_names xs b
     in sym (same_apart (names_of xs a) (names_of xs b) (λ e. c.if-a-b.true (sym p ∙ e ∙ q)))
 
-pub returns-then-not-same-name : goal.returns-then-not-same-name
-returns-then-not-same-name c =
+pub returns-then-not-same_name : goal.returns-then-not-same_name
+returns-then-not-same_name c =
     sym (c.loop-i.invariant ∙ same_more c.args.formula.now c.args.a.now c.args.b.now c.loop-i.i false
-    c.loop-i-test.true (omega arith) c.if-not-same-name.ensures)
+    c.loop-i-test.true (omega arith) c.if-not-same_name.ensures)
 
 pub loop-i-preserved : goal.loop-i-preserved
 loop-i-preserved c =

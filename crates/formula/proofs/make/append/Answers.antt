@@ -5,13 +5,13 @@ use Rattle.formula.specs.Shown.{names_of, places_of}
 use Rattle.formula.proofs.Tables.{copied_more, fits, length_names, too_long}
 use Rattle.formula.proofs.make.append.Goals as goal
 
-pub returns-then-too-long : goal.returns-then-too-long
-returns-then-too-long c xs =
+pub returns-then-too_long : goal.returns-then-too_long
+returns-then-too_long c xs =
     let a = c.args.a.now
     in let b = c.args.b.now
     in let p = length_names xs a
     in let q = length_names xs b
-    in let h = c.if-too-long.ensures
+    in let h = c.if-too_long.ensures
     in sym (too_long (names_of xs a ++ names_of xs b) (simp length-append (omega arith)))
 
 pub loop-i-init : goal.loop-i-init

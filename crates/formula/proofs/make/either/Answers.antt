@@ -4,11 +4,11 @@ use Rattle.formula.specs.Shown.{clip, items_of, shown, table}
 use Rattle.formula.proofs.Tables.{copied_more, length_shown}
 use Rattle.formula.proofs.make.either.Goals as goal
 
-pub returns-then-too-many : goal.returns-then-too-many
-returns-then-too-many c xs ds es f g =
+pub returns-then-too_many : goal.returns-then-too_many
+returns-then-too_many c xs ds es f g =
     let p = length_shown xs c.args.a.now ds f.1
     in let q = length_shown xs c.args.b.now es g.1
-    in let h = c.if-too-many.ensures
+    in let h = c.if-too_many.ensures
     in simp length-append (omega arith)
 
 pub loop-i-init : goal.loop-i-init

@@ -9,12 +9,12 @@ use Rattle.formula.proofs.make.product.Goals as goal
 more : (i n : ℕ) → (i + 1) * n ≡ i * n + n
 more i n = add-mul i 1 n ∙ ap (λ k. i * n + k) (one-mul n)
 
-pub returns-then-too-many : goal.returns-then-too-many
-returns-then-too-many c xs ds es f g =
+pub returns-then-too_many : goal.returns-then-too_many
+returns-then-too_many c xs ds es f g =
     let p = length_shown xs c.args.a.now ds f.1
     in let q = length_shown xs c.args.b.now es g.1
     in let l : length ds * length es ≡ c.args.a.now.len * c.args.b.now.len = cc
-    in omega (arith, length_product ds es, c.if-too-many.ensures)
+    in omega (arith, length_product ds es, c.if-too_many.ensures)
 
 pub loop-i-init : goal.loop-i-init
 unfolding crossed

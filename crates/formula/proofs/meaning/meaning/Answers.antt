@@ -1,9 +1,8 @@
-use Rattle.std.proofs.Common.{◌≡◌, ℕ, List, Ok, Err, Result, sym, refl, ap, ◌∙◌, subst}
+use Rattle.std.proofs.Common.{◌≡◌, ℕ, List, Ok, Err, Result, sym, refl, ap, ◌∙◌}
 use Rattle.std.proofs.lemmas.Result.{err_from_is_err_and}
 use Rattle.std.specs.Result.{result_map_both}
 use Rattle.refusal.specs.declared.Refusal.{Refusal}
 use Rattle.formula.specs.declared.disjuncts.Disjuncts.{Disjuncts}
-use Rattle.formula.specs.declared.fault.FormulaFault.{FormulaFault}
 use Rattle.formula.specs.Faults.{carried, fault, then}
 use Rattle.formula.specs.Formulas.{Formula}
 use Rattle.formula.specs.Meaning.{meaning}
@@ -26,25 +25,25 @@ module _ (xs : List ℕ) (f : Formula) (is : reading xs ≡ Ok f) where
       swap (Ok x) = refl
       swap (Err r) = refl
 
-pub returns-in-err-ways : goal.returns-in-err-ways
-returns-in-err-ways c =
+pub returns-in_err-ways : goal.returns-in_err-ways
+returns-in_err-ways c =
     let xs = c.args.formula.now
-    in let p = err_from_is_err_and c.from-residual.result c.from-residual.ensures.1
+    in let p = err_from_is_err_and c.from_residual.result c.from_residual.ensures.1
     in record {
       means = ap (result_map_both (disjuncts_of xs) (λ e. e)) (p.1 ∙ ap Err p.2)
-          ∙ sym (ap (λ t. then t (λ g. carried (λ r. fault 0 r) (fitted (ways g)))) c.in-err-ways.ensures);
+          ∙ sym (ap (λ t. then t (λ g. carried (λ r. fault 0 r) (fitted (ways g)))) c.in_err-ways.ensures);
       grammar = right_answer xs;
       bytes = laid xs;
       kept = kept_once;
     }
 
-pub returns-in-err-kept : goal.returns-in-err-kept
-returns-in-err-kept c =
+pub returns-in_err-kept : goal.returns-in_err-kept
+returns-in_err-kept c =
     let xs = c.args.formula.now
-    in let p = err_from_is_err_and c.from-residual-in-err-kept.result c.from-residual-in-err-kept.ensures.1
-    in let (f, is, shows) = c.in-ok-ways.ensures
+    in let p = err_from_is_err_and c.from_residual-in_err-kept.result c.from_residual-in_err-kept.ensures.1
+    in let (f, is, shows) = c.in_ok-ways.ensures
     in record {
-      means = ap (result_map_both (disjuncts_of xs) (λ e. e)) (p.1 ∙ ap Err p.2 ∙ c.in-err-kept.ensures)
+      means = ap (result_map_both (disjuncts_of xs) (λ e. e)) (p.1 ∙ ap Err p.2 ∙ c.in_err-kept.ensures)
           ∙ placed xs f is c.disjuncts.result (c.disjuncts.ensures (ways f) shows);
       grammar = right_answer xs;
       bytes = laid xs;
@@ -54,9 +53,9 @@ returns-in-err-kept c =
 pub returns : goal.returns
 returns c =
     let xs = c.args.formula.now
-    in let (f, is, shows) = c.in-ok-ways.ensures
+    in let (f, is, shows) = c.in_ok-ways.ensures
     in record {
-      means = ap (result_map_both (disjuncts_of xs) (λ e. e)) c.in-ok-kept.ensures
+      means = ap (result_map_both (disjuncts_of xs) (λ e. e)) c.in_ok-kept.ensures
           ∙ placed xs f is c.disjuncts.result (c.disjuncts.ensures (ways f) shows);
       grammar = right_answer xs;
       bytes = laid xs;

@@ -1,9 +1,8 @@
-use Rattle.std.proofs.Common.{◌≡◌, ℕ, suc, ◌+◌, ◌<◌, ◌≤◌, true, false, List, [], ◌∷◌, length, IfSome, Some, None, Ok, Err, Option, Result, sym, refl, ap, ◌∙◌, subst, arith, Bor}
+use Rattle.std.proofs.Common.{◌≡◌, ℕ, ◌+◌, ◌<◌, ◌≤◌, true, List, [], ◌∷◌, length, IfSome, Some, Ok, Err, Option, Result, sym, refl, ap, ◌∙◌, subst, arith, Bor}
 use Rattle.std.proofs.lemmas.Result.{err_from_is_err_and, IfOk-from_err}
-use Rattle.refusal.specs.declared.Refusal.TheVariants.{OutOfPlace, TooDeep}
+use Rattle.refusal.specs.declared.Refusal.TheVariants.{OutOfPlace}
 use Rattle.formula.specs.declared.fault.FormulaFault.{FormulaFault}
 use Rattle.formula.specs.declared.row.Reading.{Reading}
-use Rattle.formula.specs.declared.row.Row.{Row}
 use Rattle.formula.specs.declared.token.Bracket.{Bracket}
 use Rattle.formula.specs.declared.token.Bracket.TheVariants.{Round, Brace}
 use Rattle.lexicon.specs.declared.side.Side.{Side}
@@ -11,10 +10,10 @@ use Rattle.formula.specs.declared.token.Placed.{Placed}
 use Rattle.formula.specs.declared.token.Token.{Token}
 use Rattle.formula.specs.declared.token.Token.TheVariants as lent
 use Rattle.formula.specs.declared.ways.Ways.{Ways}
-use Rattle.formula.specs.Cuts.{Cut, ends, fails, token, cut_from, next_cut, name_there, Stands}
+use Rattle.formula.specs.Cuts.{Cut, token, cut_from, next_cut, name_there, Stands}
 use Rattle.formula.specs.Faults.{fault}
-use Rattle.formula.specs.Formulas.{Formula, one, row, Item, named, within, empty}
-use Rattle.formula.specs.Progress.{goes, joined_by, StandsFor, ItemRead, InsideRead, FormulaRead, MoreRead, Further, EmptyPair, NoPair}
+use Rattle.formula.specs.Formulas.{Formula, one, row, named, within, empty}
+use Rattle.formula.specs.Progress.{goes, joined_by, ItemRead, InsideRead, MoreRead, Further, EmptyPair, NoPair}
 use Rattle.formula.specs.Reading.{Before, nothing, after, Open, inside, wants, has, add, open_depth, read}
 use Rattle.formula.specs.Shown.{Shows}
 use Rattle.formula.specs.Tokens.{Word, mark, open_with, close_with, connector, said}
@@ -42,30 +41,30 @@ misplaced b o c p rest (lent.Open x) e n f g = absurd (f x refl)
 misplaced b o c p rest (lent.Close x) e n f g = wants_close b o c p rest x e n
 misplaced b o c p rest (lent.Connector m x) e n f g = absurd (g m x refl)
 
-pub formula-at-loop-longer-init : goal.formula-at-loop-longer-init
+pub formula_at-loop-longer-init : goal.formula_at-loop-longer-init
 unfolding ways
-formula-at-loop-longer-init t c =
-    let (i, shows, reads) = c.in-ok-first.ensures.reads
-    in let on = c.in-ok-first.ensures.on
+formula_at-loop-longer-init t c =
+    let (i, shows, reads) = c.in_ok-first.ensures.reads
+    in let on = c.in_ok-first.ensures.on
     in (on.0, on.1, (one i, (refl, shows), reads nothing))
 
-pub inside-at-returns-in-err-end : goal.inside-at-returns-in-err-end
-inside-at-returns-in-err-end t c =
+pub inside_at-returns-in_err-end : goal.inside_at-returns-in_err-end
+inside_at-returns-in_err-end t c =
     let xs = c.args.formula.now
-    in let p = err_from_is_err_and c.from-residual.result c.from-residual.ensures.1
+    in let p = err_from_is_err_and c.from_residual.result c.from_residual.ensures.1
     in record {
-      reads = passed (InsideRead xs c.args.at c.args.depth c.args.bracket) c.from-residual.result p.0 c.in-err-end.field-0.0 p.1 p.2
-          (λ b o h. fails_there (wants nothing (inside c.args.bracket b o)) (cut_from xs c.args.at) c.in-err-end.field-0.0.place c.in-err-end.field-0.0.refusal c.in-err-end.ensures.reads);
-      on = passed (Further xs c.args.at) c.from-residual.result p.0 c.in-err-end.field-0.0 p.1 p.2 tt;
+      reads = passed (InsideRead xs c.args.at c.args.depth c.args.bracket) c.from_residual.result p.0 c.in_err-end.field-0.0 p.1 p.2
+          (λ b o h. fails_there (wants nothing (inside c.args.bracket b o)) (cut_from xs c.args.at) c.in_err-end.field-0.0.place c.in_err-end.field-0.0.refusal c.in_err-end.ensures.reads);
+      on = passed (Further xs c.args.at) c.from_residual.result p.0 c.in_err-end.field-0.0 p.1 p.2 tt;
     }
 
-pub inside-at-returns-in-Some : goal.inside-at-returns-in-Some
+pub inside_at-returns-in-Some : goal.inside_at-returns-in-Some
 unfolding ways open_depth
-inside-at-returns-in-Some t c =
+inside_at-returns-in-Some t c =
     let xs = c.args.formula.now
     in let P : Option ℕ → Type 0 = λ o. EmptyPair xs c.args.bracket c.args.at (Ok o)
-    in let (p, round, e) = subst P c.in-Some.is c.in-ok-end.ensures.reads
-    in let on = subst (λ o. IfSome o (λ end. (c.args.at < end) × (end ≤ length xs))) c.in-Some.is c.in-ok-end.ensures.on
+    in let (p, round, e) = subst P c.in-Some.is c.in_ok-end.ensures.reads
+    in let on = subst (λ o. IfSome o (λ end. (c.args.at < end) × (end ≤ length xs))) c.in-Some.is c.in_ok-end.ensures.on
     in record {
       reads = (
         empty,
@@ -76,17 +75,17 @@ inside-at-returns-in-Some t c =
       on = on;
     }
 
-pub inside-at-returns-in-err-end-2 : goal.inside-at-returns-in-err-end-2
-inside-at-returns-in-err-end-2 t c =
+pub inside_at-returns-in_err-end-2 : goal.inside_at-returns-in_err-end-2
+inside_at-returns-in_err-end-2 t c =
     let xs = c.args.formula.now
-    in let p = err_from_is_err_and c.from-residual-in-err-end-2.result c.from-residual-in-err-end-2.ensures.1
-    in let e = c.in-err-end-2.field-0.0
-    in let (f, shows, stops, reads) = c.in-ok-inside.ensures.reads
+    in let p = err_from_is_err_and c.from_residual-in_err-end-2.result c.from_residual-in_err-end-2.ensures.1
+    in let e = c.in_err-end-2.field-0.0
+    in let (f, shows, stops, reads) = c.in_ok-inside.ensures.reads
     in record {
-      reads = passed (InsideRead xs c.args.at c.args.depth c.args.bracket) c.from-residual-in-err-end-2.result p.0 e p.1 p.2
+      reads = passed (InsideRead xs c.args.at c.args.depth c.args.bracket) c.from_residual-in_err-end-2.result p.0 e p.1 p.2
           (λ b o h. reads (inside c.args.bracket b o) h
-          ∙ unclosed f b o (cut_from xs c.in-ok-inside.inside.end) c.args.bracket e stops c.in-err-end-2.ensures.reads);
-      on = passed (Further xs c.args.at) c.from-residual-in-err-end-2.result p.0 e p.1 p.2 tt;
+          ∙ unclosed f b o (cut_from xs c.in_ok-inside.inside.end) c.args.bracket e stops c.in_err-end-2.ensures.reads);
+      on = passed (Further xs c.args.at) c.from_residual-in_err-end-2.result p.0 e p.1 p.2 tt;
     }
 
 -- A formula in brackets, by the bracket that closes.
@@ -104,79 +103,79 @@ in_brackets : (xs : List ℕ) (w : Ways) (k l : Bracket) (f : Formula) → k ≡
 unfolding ways
 in_brackets xs w k l f e h = subst (λ x. Shows xs w (bracketed_ways x (ways f))) (sym e) h
 
-pub inside-at-returns-in-Round : goal.inside-at-returns-in-Round
+pub inside_at-returns-in-Round : goal.inside_at-returns-in-Round
 unfolding ways
-inside-at-returns-in-Round t c =
+inside_at-returns-in-Round t c =
     let xs = c.args.formula.now
     in let k = c.args.bracket
-    in let (f, shows, stops, reads) = c.in-ok-inside.ensures.reads
-    in let on = c.in-ok-inside.ensures.on
-    in let end = c.in-ok-end-2.ensures
+    in let (f, shows, stops, reads) = c.in_ok-inside.ensures.reads
+    in let on = c.in_ok-inside.ensures.on
+    in let end = c.in_ok-end-2.ensures
     in record {
       reads = (
         within k f,
-        in_brackets xs c.in-ok-inside.inside.ways k Round f c.in-Round.is (shows),
-        bracketed xs c.args.at c.args.depth c.in-ok-inside.inside.end c.in-ok-end-2.end k f c.requires.1 reads end.reads,
+        in_brackets xs c.in_ok-inside.inside.ways k Round f c.in-Round.is (shows),
+        bracketed xs c.args.at c.args.depth c.in_ok-inside.inside.end c.in_ok-end-2.end k f c.requires.1 reads end.reads,
       );
       on = (omega (arith, on.0, end.on.0), end.on.1);
     }
 
-pub inside-at-returns-in-Brace : goal.inside-at-returns-in-Brace
+pub inside_at-returns-in-Brace : goal.inside_at-returns-in-Brace
 unfolding ways
-inside-at-returns-in-Brace t c =
+inside_at-returns-in-Brace t c =
     let xs = c.args.formula.now
     in let k = c.args.bracket
-    in let (f, shows, stops, reads) = c.in-ok-inside.ensures.reads
-    in let on = c.in-ok-inside.ensures.on
-    in let end = c.in-ok-end-2.ensures
+    in let (f, shows, stops, reads) = c.in_ok-inside.ensures.reads
+    in let on = c.in_ok-inside.ensures.on
+    in let end = c.in_ok-end-2.ensures
     in record {
       reads = (
         within k f,
         in_brackets xs c.optional.result k Brace f c.in-Brace.is (c.optional.ensures xs (ways f) shows),
-        bracketed xs c.args.at c.args.depth c.in-ok-inside.inside.end c.in-ok-end-2.end k f c.requires.1 reads end.reads,
+        bracketed xs c.args.at c.args.depth c.in_ok-inside.inside.end c.in_ok-end-2.end k f c.requires.1 reads end.reads,
       );
       on = (omega (arith, on.0, end.on.0), end.on.1);
     }
 
-pub item-at-returns-in-err-placed : goal.item-at-returns-in-err-placed
-item-at-returns-in-err-placed t c =
+pub item_at-returns-in_err-placed : goal.item_at-returns-in_err-placed
+item_at-returns-in_err-placed t c =
     let xs = c.args.formula.now
-    in let p = err_from_is_err_and c.from-residual.result c.from-residual.ensures.1
-    in let e = c.in-err-placed.field-0.0
+    in let p = err_from_is_err_and c.from_residual.result c.from_residual.ensures.1
+    in let e = c.in_err-placed.field-0.0
     in record {
-      reads = passed (ItemRead xs c.args.at c.args.depth) c.from-residual.result p.0 e p.1 p.2
-          (λ b o h n. fails_there (wants b o) (cut_from xs c.args.at) e.place e.refusal c.in-err-placed.ensures.cuts);
-      on = passed (Further xs c.args.at) c.from-residual.result p.0 e p.1 p.2 tt;
+      reads = passed (ItemRead xs c.args.at c.args.depth) c.from_residual.result p.0 e p.1 p.2
+          (λ b o h n. fails_there (wants b o) (cut_from xs c.args.at) e.place e.refusal c.in_err-placed.ensures.cuts);
+      on = passed (Further xs c.args.at) c.from_residual.result p.0 e p.1 p.2 tt;
     }
 
-pub item-at-returns-in-default : goal.item-at-returns-in-default
-item-at-returns-in-default t c =
+pub item_at-returns-in_default : goal.item_at-returns-in_default
+item_at-returns-in_default t c =
     let xs = c.args.formula.now
     in record {
       reads = λ b o h n. wants_end b o (cut_from xs c.args.at) (length xs)
-          (c.in-ok-placed.ensures.cuts ∙ ap (λ m. next_cut xs (Ok m)) c.in-default.is);
+          (c.in_ok-placed.ensures.cuts ∙ ap (λ m. next_cut xs (Ok m)) c.in_default.is);
       on = tt;
     }
 
-pub item-at-returns-then-depth-ge-DEEPEST : goal.item-at-returns-then-depth-ge-DEEPEST
-item-at-returns-then-depth-ge-DEEPEST t c =
+pub item_at-returns-then-depth-ge-DEEPEST : goal.item_at-returns-then-depth-ge-DEEPEST
+item_at-returns-then-depth-ge-DEEPEST t c =
     let xs = c.args.formula.now
     in let p = c.in-Some.placed
-    in let q = next_is xs c.args.at c.in-ok-placed.field-0 p (open_with c.in-Open.bracket) c.in-ok-placed.ensures.cuts c.in-Some.is (ap said c.in-Open.is)
+    in let q = next_is xs c.args.at c.in_ok-placed.field-0 p (open_with c.in-Open.bracket) c.in_ok-placed.ensures.cuts c.in-Some.is (ap said c.in-Open.is)
     in record {
       reads = λ b o h n. wants_too_deep b o (cut_from xs c.args.at) p.at (cut_from xs p.end) c.in-Open.bracket q (omega arith);
       on = tt;
     }
 
-pub item-at-returns-in-Connector : goal.item-at-returns-in-Connector
+pub item_at-returns-in-Connector : goal.item_at-returns-in-Connector
 unfolding ways
-item-at-returns-in-Connector t c =
+item_at-returns-in-Connector t c =
     let xs = c.args.formula.now
     in let p = c.in-Some.placed
     in let s = c.in-Connector.side
     in let n = c.in-Connector.name.now
-    in let q = next_is xs c.args.at c.in-ok-placed.field-0 p (connector s n) c.in-ok-placed.ensures.cuts c.in-Some.is (ap said c.in-Connector.is)
-    in let on = subst (λ o. IfSome o (λ p. (c.args.at < p.end) × (p.end ≤ length xs) × Stands xs p.at p)) c.in-Some.is c.in-ok-placed.ensures.placed
+    in let q = next_is xs c.args.at c.in_ok-placed.field-0 p (connector s n) c.in_ok-placed.ensures.cuts c.in-Some.is (ap said c.in-Connector.is)
+    in let on = subst (λ o. IfSome o (λ p. (c.args.at < p.end) × (p.end ≤ length xs) × Stands xs p.at p)) c.in-Some.is c.in_ok-placed.ensures.placed
     in let same : n ≡ name_there xs p.at = on.2.2 s n (ap said c.in-Connector.is)
     in record {
       reads = (
@@ -208,79 +207,79 @@ opened xs at depth p end k q deep fwd (Err e) reads on =
       on = tt;
     }
 
-pub item-at-returns-else-depth-ge-DEEPEST : goal.item-at-returns-else-depth-ge-DEEPEST
-item-at-returns-else-depth-ge-DEEPEST t c =
+pub item_at-returns-else-depth-ge-DEEPEST : goal.item_at-returns-else-depth-ge-DEEPEST
+item_at-returns-else-depth-ge-DEEPEST t c =
     let xs = c.args.formula.now
     in let p = c.in-Some.placed
-    in let q = next_is xs c.args.at c.in-ok-placed.field-0 p (open_with c.in-Open.bracket) c.in-ok-placed.ensures.cuts c.in-Some.is (ap said c.in-Open.is)
-    in let on = subst (λ o. IfSome o (λ p. (c.args.at < p.end) × (p.end ≤ length xs) × Stands xs p.at p)) c.in-Some.is c.in-ok-placed.ensures.placed
-    in opened xs c.args.at c.args.depth p.at p.end c.in-Open.bracket q c.if-depth-ge-DEEPEST.false on.0 c.inside-at.result c.inside-at.ensures.reads c.inside-at.ensures.on
+    in let q = next_is xs c.args.at c.in_ok-placed.field-0 p (open_with c.in-Open.bracket) c.in_ok-placed.ensures.cuts c.in-Some.is (ap said c.in-Open.is)
+    in let on = subst (λ o. IfSome o (λ p. (c.args.at < p.end) × (p.end ≤ length xs) × Stands xs p.at p)) c.in-Some.is c.in_ok-placed.ensures.placed
+    in opened xs c.args.at c.args.depth p.at p.end c.in-Open.bracket q c.if-depth-ge-DEEPEST.false on.0 c.inside_at.result c.inside_at.ensures.reads c.inside_at.ensures.on
 
-pub item-at-returns-in-default-token : goal.item-at-returns-in-default-token
-item-at-returns-in-default-token t c =
+pub item_at-returns-in_default-token : goal.item_at-returns-in_default-token
+item_at-returns-in_default-token t c =
     let xs = c.args.formula.now
     in let p = c.in-Some.placed
-    in let q = next_is xs c.args.at c.in-ok-placed.field-0 p (said p.token) c.in-ok-placed.ensures.cuts c.in-Some.is refl
+    in let q = next_is xs c.args.at c.in_ok-placed.field-0 p (said p.token) c.in_ok-placed.ensures.cuts c.in-Some.is refl
     in record {
-      reads = λ b o h n. misplaced b o (cut_from xs c.args.at) p.at (cut_from xs p.end) p.token q n c.in-default-token.not-Open c.in-default-token.not-Connector;
+      reads = λ b o h n. misplaced b o (cut_from xs c.args.at) p.at (cut_from xs p.end) p.token q n c.in_default-token.not-Open c.in_default-token.not-Connector;
       on = tt;
     }
 
-pub more-of-returns-in-err-placed : goal.more-of-returns-in-err-placed
-more-of-returns-in-err-placed t c =
+pub more_of-returns-in_err-placed : goal.more_of-returns-in_err-placed
+more_of-returns-in_err-placed t c =
     let xs = c.args.formula.now
     in let w = c.args.row.now
-    in let p = err_from_is_err_and c.from-residual.result c.from-residual.ensures.1
-    in let e = c.in-err-placed.field-0.0
+    in let p = err_from_is_err_and c.from_residual.result c.from_residual.ensures.1
+    in let e = c.in_err-placed.field-0.0
     in record {
-      reads = passed (MoreRead xs w c.args.depth) c.from-residual.result p.0 e p.1 p.2
-          (λ f s o h. fails_there (has f o) (cut_from xs w.end) e.place e.refusal c.in-err-placed.ensures.cuts);
-      on = IfOk-from_err c.from-residual.result _ c.from-residual.ensures.0;
+      reads = passed (MoreRead xs w c.args.depth) c.from_residual.result p.0 e p.1 p.2
+          (λ f s o h. fails_there (has f o) (cut_from xs w.end) e.place e.refusal c.in_err-placed.ensures.cuts);
+      on = IfOk-from_err c.from_residual.result _ c.from_residual.ensures.0;
     }
 
-pub more-of-returns-then-not-goes-on : goal.more-of-returns-then-not-goes-on
-more-of-returns-then-not-goes-on t c =
+pub more_of-returns-then-not-goes_on : goal.more_of-returns-then-not-goes_on
+more_of-returns-then-not-goes_on t c =
     let xs = c.args.formula.now
     in let w = c.args.row.now
     in let p = c.in-Some.placed
     in let j = c.in-Mark.mark
-    in let q = next_is xs w.end c.in-ok-placed.field-0 p (mark j) c.in-ok-placed.ensures.cuts c.in-Some.is (ap said c.in-Mark.is)
+    in let q = next_is xs w.end c.in_ok-placed.field-0 p (mark j) c.in_ok-placed.ensures.cuts c.in-Some.is (ap said c.in-Mark.is)
     in record {
-      reads = λ f s. stopped f (cut_from xs w.end) p.at j (cut_from xs p.end) q (ap (λ k. goes k j) (sym s.0) ∙ sym c.if-not-goes-on.ensures);
+      reads = λ f s. stopped f (cut_from xs w.end) p.at j (cut_from xs p.end) q (ap (λ k. goes k j) (sym s.0) ∙ sym c.if-not-goes_on.ensures);
       on = tt;
     }
 
-pub more-of-returns-in-err-item : goal.more-of-returns-in-err-item
-more-of-returns-in-err-item t c =
+pub more_of-returns-in_err-item : goal.more_of-returns-in_err-item
+more_of-returns-in_err-item t c =
     let xs = c.args.formula.now
     in let w = c.args.row.now
     in let p = c.in-Some.placed
     in let j = c.in-Mark.mark
-    in let q = next_is xs w.end c.in-ok-placed.field-0 p (mark j) c.in-ok-placed.ensures.cuts c.in-Some.is (ap said c.in-Mark.is)
-    in let r = err_from_is_err_and c.from-residual-in-err-item.result c.from-residual-in-err-item.ensures.1
-    in let e = c.in-err-item.field-0.0
+    in let q = next_is xs w.end c.in_ok-placed.field-0 p (mark j) c.in_ok-placed.ensures.cuts c.in-Some.is (ap said c.in-Mark.is)
+    in let r = err_from_is_err_and c.from_residual-in_err-item.result c.from_residual-in_err-item.ensures.1
+    in let e = c.in_err-item.field-0.0
     in record {
-      reads = passed (MoreRead xs w c.args.depth) c.from-residual-in-err-item.result r.0 e r.1 r.2
+      reads = passed (MoreRead xs w c.args.depth) c.from_residual-in_err-item.result r.0 e r.1 r.2
           (λ f s o h.
-          let g : goes (joined_by f) j ≡ true = ap (λ k. goes k j) (sym s.0) ∙ sym c.if-not-goes-on.ensures
+          let g : goes (joined_by f) j ≡ true = ap (λ k. goes k j) (sym s.0) ∙ sym c.if-not-goes_on.ensures
           in marked f o (cut_from xs w.end) p.at j (cut_from xs p.end) q g (omega (arith, c.requires.1))
-          ∙ c.in-err-item.ensures.reads (after j (items_in f)) o h (no_pair (after j (items_in f)) o (λ k. refl) (cut_from xs p.end)));
-      on = IfOk-from_err c.from-residual-in-err-item.result _ c.from-residual-in-err-item.ensures.0;
+          ∙ c.in_err-item.ensures.reads (after j (items_in f)) o h (no_pair (after j (items_in f)) o (λ k. refl) (cut_from xs p.end)));
+      on = IfOk-from_err c.from_residual-in_err-item.result _ c.from_residual-in_err-item.ensures.0;
     }
 
-pub more-of-returns : goal.more-of-returns
-more-of-returns t c =
+pub more_of-returns : goal.more_of-returns
+more_of-returns t c =
     let xs = c.args.formula.now
     in let w = c.args.row.now
     in let p = c.in-Some.placed
     in let j = c.in-Mark.mark
-    in let q = next_is xs w.end c.in-ok-placed.field-0 p (mark j) c.in-ok-placed.ensures.cuts c.in-Some.is (ap said c.in-Mark.is)
-    in let on = subst (λ o. IfSome o (λ p. (w.end < p.end) × (p.end ≤ length xs) × Stands xs p.at p)) c.in-Some.is c.in-ok-placed.ensures.placed
-    in let (i, shows, reads) = c.in-ok-item.ensures.reads
-    in let further = c.in-ok-item.ensures.on
+    in let q = next_is xs w.end c.in_ok-placed.field-0 p (mark j) c.in_ok-placed.ensures.cuts c.in-Some.is (ap said c.in-Mark.is)
+    in let on = subst (λ o. IfSome o (λ p. (w.end < p.end) × (p.end ≤ length xs) × Stands xs p.at p)) c.in-Some.is c.in_ok-placed.ensures.placed
+    in let (i, shows, reads) = c.in_ok-item.ensures.reads
+    in let further = c.in_ok-item.ensures.on
     in record {
       reads = λ f s.
-          let g : goes (joined_by f) j ≡ true = ap (λ k. goes k j) (sym s.0) ∙ sym c.if-not-goes-on.ensures
+          let g : goes (joined_by f) j ≡ true = ap (λ k. goes k j) (sym s.0) ∙ sym c.if-not-goes_on.ensures
           in (
             row j (items_in f) i,
             (refl, subst (λ ds. Shows xs c.join.result ds) (sym (ways_more f j i g)) (c.join.ensures xs (ways f) (item_ways i) s.1 shows)),
