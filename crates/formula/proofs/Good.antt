@@ -6,7 +6,7 @@ use Rattle.std.proofs.Common.{◌≡◌, ℕ, zero, suc, pred, ◌+◌, ◌<◌,
 use Rattle.std.proofs.lemmas.List.{get_or_past}
 use Rattle.std.proofs.ByRecursion.{All-append, All-push, All-map, All-weaker}
 use Rattle.std.proofs.lemmas.Bool.{cond_both, cases_lt, ltb-false, or_parts}
-use Rattle.std.specs.List.{AllByRecursion as All}
+use Rattle.std.specs.List.{AllByRecursion}
 use Rattle.lexicon.specs.Lexicon.{free, side_of}
 use Rattle.lexicon.specs.declared.side.Side.{Side}
 use Rattle.lexicon.specs.declared.side.Side.TheVariants.{Left, Right}
@@ -33,21 +33,21 @@ abbrev pub NamedOk : Name → Type 0
 NamedOk n = (length n ≤ 8) × ((j : ℕ) → get_or n j 0 < 256)
 
 -- What holds of each element, and of the default, holds at each place.
-all_at : {X : Type 0} (P : X → Type 0) (xs : List X) (d : X) → P d → All P xs → (k : ℕ) → P (get_or xs k d)
+all_at : {X : Type 0} (P : X → Type 0) (xs : List X) (d : X) → P d → AllByRecursion P xs → (k : ℕ) → P (get_or xs k d)
 all_at P [] d h a k = h
 all_at P (x ∷ xs) d h a zero = a.0
 all_at P (x ∷ xs) d h a (suc k) = all_at P xs d h a.1 k
 
-all_parts : {X : Type 0} (P : X → Type 0) (xs ys : List X) → All P (xs ++ ys) → All P xs × All P ys
+all_parts : {X : Type 0} (P : X → Type 0) (xs ys : List X) → AllByRecursion P (xs ++ ys) → AllByRecursion P xs × AllByRecursion P ys
 all_parts P [] ys a = (tt, a)
 all_parts P (x ∷ xs) ys a = let h = all_parts P xs ys a.1 in ((a.0, h.0), h.1)
 
 -- What is kept are some of the ways.
 
-pub kept_all : (P : Way → Type 0) (ds out : List Way) → All P out → All P ds → All P (fold keep out ds)
+pub kept_all : (P : Way → Type 0) (ds out : List Way) → AllByRecursion P out → AllByRecursion P ds → AllByRecursion P (fold keep out ds)
 kept_all P [] out a b = a
 kept_all P (d ∷ ds) out a b =
-    kept_all P ds (keep out d) (cond_both (there d out) _ _ (All P) (λ _. a) (λ _. All-push P out d a b.0)) b.1
+    kept_all P ds (keep out d) (cond_both (there d out) _ _ (AllByRecursion P) (λ _. a) (λ _. All-push P out d a b.0)) b.1
 
 kept_few : (ds out : List Way) → length (fold keep out ds) ≤ length out + length ds
 kept_few [] out = omega arith
@@ -71,19 +71,19 @@ module _ (P : Name → Type 0) where
   InCut (token p w c) = InWord w × InCut c
 
   abbrev Asks : Way → Type 0
-  Asks d = All P d.left × All P d.right
+  Asks d = AllByRecursion P d.left × AllByRecursion P d.right
 
-  in_words : {c d : Cut} {ws : List Word} → After c ws d → InCut c → All InWord ws
+  in_words : {c d : Cut} {ws : List Word} → After c ws d → InCut c → AllByRecursion InWord ws
   in_words (here c) h = tt
   in_words (later p w c ws d a) h = (h.0, in_words a h.1)
 
-  in_tokens : (c : Cut) (f : Formula) → Answer c (Ok f) → InCut c → All InWord (tokens f)
+  in_tokens : (c : Cut) (f : Formula) → Answer c (Ok f) → InCut c → AllByRecursion InWord (tokens f)
   in_tokens c f (accepted g p a d) h = in_words a h
 
   asks_glue : (d e : Way) → Asks d → Asks e → Asks (glue d e)
   asks_glue d e a b = (All-append P d.left e.left a.0 b.0, All-append P d.right e.right a.1 b.1)
 
-  asks_product : (ds es : List Way) → All Asks ds → All Asks es → All Asks (product ds es)
+  asks_product : (ds es : List Way) → AllByRecursion Asks ds → AllByRecursion Asks es → AllByRecursion Asks (product ds es)
   unfolding product
   asks_product [] es a b = tt
   asks_product (d ∷ ds) es a b =
@@ -91,11 +91,11 @@ module _ (P : Name → Type 0) where
       (All-map Asks (glue d) es (All-weaker Asks (λ e. Asks (glue d e)) (λ e. asks_glue d e a.0) es b))
       (asks_product ds es a.1 b)
 
-  asks_joined : (j : Join) (ds es : List Way) → All Asks ds → All Asks es → All Asks (joined j ds es)
+  asks_joined : (j : Join) (ds es : List Way) → AllByRecursion Asks ds → AllByRecursion Asks es → AllByRecursion Asks (joined j ds es)
   asks_joined And = asks_product
   asks_joined Or = All-append Asks
 
-  asks_bracketed : (b : Bracket) (ds : List Way) → All Asks ds → All Asks (bracketed b ds)
+  asks_bracketed : (b : Bracket) (ds : List Way) → AllByRecursion Asks ds → AllByRecursion Asks (bracketed b ds)
   asks_bracketed Round ds a = a
   asks_bracketed Brace ds a = All-push Asks ds free a (tt, tt)
 
@@ -106,25 +106,25 @@ module _ (P : Name → Type 0) where
   mutual
     unfolding tokens item_tokens row_tokens ways item_ways row_ways
 
-    in_ways : (f : Formula) → All InWord (tokens f) → All Asks (ways f)
+    in_ways : (f : Formula) → AllByRecursion InWord (tokens f) → AllByRecursion Asks (ways f)
     in_ways (one i) h = in_item_ways i h
     in_ways (row j is i) h =
         let (a, b) = all_parts InWord (row_tokens j is) (mark j ∷ item_tokens i) h in
         asks_joined j (row_ways j is) (item_ways i) (in_row_ways is j a) (in_item_ways i b.1)
 
-    in_item_ways : (i : Item) → All InWord (item_tokens i) → All Asks (item_ways i)
+    in_item_ways : (i : Item) → AllByRecursion InWord (item_tokens i) → AllByRecursion Asks (item_ways i)
     in_item_ways (named s n) h = (asks_one s n h.0, tt)
     in_item_ways empty h = ((tt, tt), tt)
     in_item_ways (within b f) h =
         asks_bracketed b (ways f) (in_ways f (all_parts InWord (tokens f) (close_with b ∷ []) h.1).0)
 
-    in_row_ways : (is : Items) (j : Join) → All InWord (row_tokens j is) → All Asks (row_ways j is)
+    in_row_ways : (is : Items) (j : Join) → AllByRecursion InWord (row_tokens j is) → AllByRecursion Asks (row_ways j is)
     in_row_ways (first i) j h = in_item_ways i h
     in_row_ways (then is i) j h =
         let (a, b) = all_parts InWord (row_tokens j is) (mark j ∷ item_tokens i) h in
         asks_joined j (row_ways j is) (item_ways i) (in_row_ways is j a) (in_item_ways i b.1)
 
-  asks_side : (d : Way) (s : Side) → Asks d → All P (side_of d s)
+  asks_side : (d : Way) (s : Side) → Asks d → AllByRecursion P (side_of d s)
   asks_side d Left a = a.0
   asks_side d Right a = a.1
 
@@ -181,7 +181,7 @@ cut_ok zero p (b ∷ bs) h =
 abbrev Short : Way → Type 0
 Short d = (length d.left ≤ 8) × (length d.right ≤ 8)
 
-all_short : (ds : List Way) → some_long ds ≡ false → All Short ds
+all_short : (ds : List Way) → some_long ds ≡ false → AllByRecursion Short ds
 unfolding some_long
 all_short [] e = tt
 all_short (d ∷ ds) e =
@@ -190,7 +190,7 @@ all_short (d ∷ ds) e =
     ((ltb-false 8 (length d.left) l, ltb-false 8 (length d.right) r), all_short ds b)
 
 abbrev Fitted : List Way → List Way → Type 0
-Fitted ws ds = (length ws ≤ 64) × (All Short ws) × (ds ≡ kept ws)
+Fitted ws ds = (length ws ≤ 64) × (AllByRecursion Short ws) × (ds ≡ kept ws)
 
 fitted_ok : (ws ds : List Way) → fitted ws ≡ Ok ds → Fitted ws ds
 fitted_ok ws ds =
@@ -226,7 +226,7 @@ pub short_sides : (xs : List ℕ) (ds : List Way) → meaning xs ≡ Ok ds → (
     length (side_of (get_or ds k free) s) ≤ 8
 short_sides xs ds e k s =
     let (f, r, (few, short, is)) = accepted_ok xs ds e in
-    let a : All Short ds = subst (All Short) (sym is) (kept_all Short (ways f) [] tt short) in
+    let a : AllByRecursion Short ds = subst (AllByRecursion Short) (sym is) (kept_all Short (ways f) [] tt short) in
     side s (all_at Short ds free (omega arith, omega arith) a k)
   where
     side : (t : Side) → Short (get_or ds k free) → length (side_of (get_or ds k free) t) ≤ 8
@@ -238,10 +238,10 @@ pub good_names : (xs : List ℕ) → ((i : ℕ) → get_or xs i 0 < 256) → (ds
     (k i : ℕ) (s : Side) → NamedOk (get_or (side_of (get_or ds k free) s) i [])
 good_names xs h ds e k i s =
     let (f, r, (few, short, is)) = accepted_ok xs ds e in
-    let w : All (InWord NamedOk) (tokens f) =
+    let w : AllByRecursion (InWord NamedOk) (tokens f) =
     in_tokens NamedOk (cut xs) f (subst (Answer (cut xs)) r (answers (cut xs))) (cut_ok 0 0 xs h) in
-    let a : All (Asks NamedOk) ds =
-    subst (All (Asks NamedOk)) (sym is) (kept_all (Asks NamedOk) (ways f) [] tt (in_ways NamedOk f w)) in
+    let a : AllByRecursion (Asks NamedOk) ds =
+    subst (AllByRecursion (Asks NamedOk)) (sym is) (kept_all (Asks NamedOk) (ways f) [] tt (in_ways NamedOk f w)) in
     let d : Asks NamedOk (get_or ds k free) = all_at (Asks NamedOk) ds free (tt, tt) a k in
     all_at NamedOk (side_of (get_or ds k free) s) [] (omega arith, λ _. omega arith)
     (asks_side NamedOk (get_or ds k free) s d) i

@@ -7,7 +7,7 @@ use Rattle.std.proofs.lemmas.List.{get_or_append_left, get_or_default, get_or_pu
 use Rattle.std.proofs.ByRecursion.{all_has_itself, has_append_left, has_push}
 use Rattle.std.proofs.lemmas.Slice.Eq.{bytes_eq-Decides}
 use Rattle.std.proofs.lemmas.Bool.{and_from, and_parts, both_ways, cases_lt, cond_both, or_cases, or_left, or_right}
-use Rattle.std.specs.List.{ContainsAt as Has, AllByRecursion as All}
+use Rattle.std.specs.List.{ContainsAt as Has, AllByRecursion}
 use Rattle.std.specs.Str.{bytes_eq}
 use Rattle.lexicon.specs.Lexicon.{free}
 use Rattle.formula.specs.Tokens.{Name}
@@ -109,7 +109,7 @@ kept_append (d ∷ ds) es out = kept_append ds es (keep out d)
 keep_has : (out : List Way) (d : Way) → Has (keep out d) d
 keep_has out d = cond_both (there d out) _ _ (λ l. Has l d) (there_has d out) (λ _. has_push out d)
 
-kept_has : (ds out : List Way) → All (Has (fold keep out ds)) ds
+kept_has : (ds out : List Way) → AllByRecursion (Has (fold keep out ds)) ds
 kept_has [] out = tt
 kept_has (d ∷ ds) out =
     let (m, p) = kept_longer ds (keep out d) in

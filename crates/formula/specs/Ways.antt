@@ -1,6 +1,6 @@
 -- What a formula means: its ways, in order, and the disjuncts that are kept of them.
 use Rattle.std.specs.Prelude.{◌≡◌, ℕ, ◌<◌, Bool, true, false, cond, ◌&&◌, ◌||◌, List, [], ◌∷◌, ◌++◌, map, length, Ok, Err, fold, Result, nat_lt, slice_index_or, refl}
-use Rattle.std.specs.List.{ContainsAt as Has, AllByRecursion as All}
+use Rattle.std.specs.List.{ContainsAt as Has, AllByRecursion}
 use Rattle.std.specs.Str.{bytes_eq}
 use Rattle.lexicon.specs.Lexicon.{Disjunct, free}
 use Rattle.lexicon.specs.declared.side.Side.{Side}
@@ -86,7 +86,7 @@ kept_once = refl
 abbrev pub KeptOnce : List Way → Type 0
 KeptOnce ds =
     ((i j : ℕ) → i < length (kept ds) → j < length (kept ds) → slice_index_or (kept ds) i free ≡ slice_index_or (kept ds) j free → i ≡ j)
-    × (All (Has (kept ds)) ds) × (All (Has ds) (kept ds))
+    × (AllByRecursion (Has (kept ds)) ds) × (AllByRecursion (Has ds) (kept ds))
     × ((es : List Way) → (more : List Way) × (kept (ds ++ es) ≡ kept ds ++ more))
 
 -- A way with a list of more than 8 connectors.

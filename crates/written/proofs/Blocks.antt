@@ -1,7 +1,7 @@
 -- Cells that stand at a place of a front, and the disjuncts that are read back from the cells of their block.
 use Rattle.std.proofs.Common.{◌≡◌, ℕ, zero, suc, ◌+◌, ◌*◌, ◌<◌, ◌≤◌, List, [], ◌∷◌, ◌++◌, length, get_or, take, sym, refl, ap, ◌∙◌, subst, ap₂, append_assoc, arith, length-append, get_or-append-add, drop_at}
 use lib.Seq.{take-append_seam}
-use Rattle.std.specs.List.{AllByRecursion as All}
+use Rattle.std.specs.List.{AllByRecursion}
 use Rattle.std.proofs.lemmas.List.{get_or_append_left}
 use Rattle.std.proofs.ByRecursion.{All-append, All-get_or}
 use Rattle.lexicon.specs.Lexicon.{Disjunct}
@@ -123,7 +123,7 @@ module _ (front : List ℕ) where
         (heads_read ds (suc k) next (heads_after d ds k at h) (connectors_after d ds at c))
 
     heads_whole : (ds : List (Disjunct ℕ)) (k at : ℕ) → Stands front (third b k) (heads at ds) → Stands front at (connectors ds) →
-        All Fits ds → All (Asks (WholeName front)) ds → (i j : ℕ) → k + i ≡ j → i < length ds → WholeDisjunct front (third b j)
+        AllByRecursion Fits ds → AllByRecursion (Asks (WholeName front)) ds → (i j : ℕ) → k + i ≡ j → i < length ds → WholeDisjunct front (third b j)
     unfolding heads connectors
     heads_whole [] k at h c f n i j e l = absurd (omega arith)
     heads_whole (d ∷ ds) k at h c (f, fs) (n, ns) zero j e l =
@@ -158,7 +158,7 @@ module _ (front : List ℕ) (b : ℕ) (ds : List (Disjunct ℕ)) (s : Stands fro
       ∙ heads_read front b ds 0 (third b (length ds))
       (stands_front front (third b 0) (heads (third b (length ds)) ds) (connectors ds) at_heads) at_connectors
 
-  pub block_whole : length ds ≤ 64 → All Fits ds → All (Asks (WholeName front)) ds → WholeBlock front b
+  pub block_whole : length ds ≤ 64 → AllByRecursion Fits ds → AllByRecursion (Asks (WholeName front)) ds → WholeBlock front b
   block_whole few fits named =
       let n = count_read in
       let w = stands_within front (third b (length ds)) (connectors ds) at_connectors in (

@@ -1,5 +1,5 @@
 -- What words, names and connectors take, one by one and in all.
-use Rattle.std.proofs.Common.{◌≡◌, ℕ, zero, suc, ◌+◌, ◌*◌, ◌<◌, ◌≤◌, Bool, true, false, ◌&&◌, eqb, ltb, leb, List, [], ◌∷◌, ◌++◌, map, length, get_or, sym, refl, ap, ◌∙◌, mul-suc, arith, length-append, ltb-true, leb-true}
+use Rattle.std.proofs.Common.{◌≡◌, ℕ, suc, ◌+◌, ◌*◌, ◌≤◌, true, ◌&&◌, eqb, ltb, leb, List, [], ◌∷◌, ◌++◌, length, ap, ◌∙◌, mul-suc, arith, length-append, leb-true}
 use Rattle.std.proofs.lemmas.Bool.{and_parts}
 use Rattle.lexicon.specs.Lexicon.{Disjunct}
 use Rattle.formula.specs.Cuts.{run}

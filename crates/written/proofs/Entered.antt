@@ -1,23 +1,21 @@
 -- What entering a line's words makes of a book, by the tests that it passes, and of the store that holds the book.
-use Rattle.std.proofs.Common.{◌≡◌, ℕ, zero, suc, ◌+◌, ◌*◌, ◌<◌, ◌≤◌, Bool, true, false, cond, ◌||◌, ltb, List, [], ◌∷◌, ◌++◌, map, length, get_or, take, Ok, Err, Result, sym, refl, ap, ◌∙◌, subst, arith, length-append, length-take-le, le-ltb, lt-ltb}
+use Rattle.std.proofs.Common.{◌≡◌, ℕ, zero, suc, ◌+◌, ◌<◌, ◌≤◌, Bool, true, false, cond, ◌||◌, ltb, List, [], ◌∷◌, map, length, get_or, take, Ok, Err, refl, ap, ◌∙◌, arith, length-append, le-ltb, lt-ltb}
 use lib.ListN.{length-map}
-use Rattle.std.specs.List.{AllByRecursion as All}
+use Rattle.std.specs.List.{AllByRecursion}
 use Rattle.refusal.specs.declared.Refusal.TheVariants.{WordTaken, TableShort}
-use Rattle.lexicon.specs.Lexicon.{Disjunct, free, side_of}
+use Rattle.lexicon.specs.Lexicon.{free, side_of}
 use Rattle.lexicon.specs.declared.side.Side.{Side}
 use Rattle.lexicon.specs.declared.side.Side.TheVariants.{Left, Right}
 use Rattle.formula.specs.declared.disjuncts.Disjuncts.{Disjuncts}
-use Rattle.formula.specs.declared.names.Names.{Names}
 use Rattle.formula.specs.declared.way.Disjunct.{Disjunct as Kept}
 use Rattle.formula.specs.Shown.{disjunct_of, disjuncts_of}
 use Rattle.formula.specs.Tokens.{Name}
 use Rattle.formula.specs.Ways.{Way}
 use Rattle.formula.proofs.Tables.{length_names}
-use Rattle.written.specs.Costs.{line_cost}
 use Rattle.written.specs.Drafts.{Book, entered, with_words}
 use Rattle.written.specs.Faults.{of_line}
 use Rattle.written.specs.Lines.{any_known}
-use Rattle.written.specs.Model.{Entry, fresh, mentioned}
+use Rattle.written.specs.Model.{Entry}
 use Rattle.written.proofs.Finds.{words_of}
 
 module _ (lim : ℕ) (b : Book) (ws : List (List ℕ)) (ds : List Way) where
@@ -60,7 +58,7 @@ module _ (lim : ℕ) (b : Book) (ws : List (List ℕ)) (ds : List Way) where
         ∙ ap (λ t. cond t (Err (of_line TableShort)) (Ok (with_words b ws ds))) (le-ltb 256 (length (with_words b ws ds).entries) m)
 
 -- What holds of each of some names and of none holds at every place.
-pub all_at : {X : Type 0} (P : X → Type 0) (d : X) → P d → (xs : List X) → All P xs → (i : ℕ) → P (get_or xs i d)
+pub all_at : {X : Type 0} (P : X → Type 0) (d : X) → P d → (xs : List X) → AllByRecursion P xs → (i : ℕ) → P (get_or xs i d)
 all_at P d n [] h i = n
 all_at P d n (x ∷ xs) h zero = h.0
 all_at P d n (x ∷ xs) h (suc i) = all_at P d n xs h.1 i

@@ -1,14 +1,14 @@
 -- A front that is extended: whatever lay whole in it lies whole in the longer one and reads the same.
 use Rattle.std.proofs.Common.{◌≡◌, ℕ, ◌+◌, ◌<◌, ◌≤◌, List, ◌++◌, map, length, drop, sym, ap, ◌∙◌, subst, arith, length-append, length-drop, length-take}
 use lib.Seq.{take-append-le, drop-append-le}
-use Rattle.std.specs.List.{AllByRecursion as All}
+use Rattle.std.specs.List.{AllByRecursion}
 use Rattle.std.proofs.lemmas.List.{get_or_append_left, get_or-take, get_or-drop}
 use Rattle.std.proofs.ByRecursion.{All-from_get_or}
 use Rattle.written.specs.Model.{renamed}
 use Rattle.written.specs.Store.{Row, cell, cells, name_at, numbers_at, third, counted, block_at, entry_of, WholeName, WholeDisjunct, WholeBlock, WholeRow}
 use Rattle.written.proofs.Renamed.{Asks, asks_weaker, renamed_same, counted_same, all_counted}
 
-pub cells_all : (P : ℕ → Type 0) (F : List ℕ) (a n : ℕ) → ((i : ℕ) → i < n → P (cell F (a + i))) → All P (cells F a n)
+pub cells_all : (P : ℕ → Type 0) (F : List ℕ) (a n : ℕ) → ((i : ℕ) → i < n → P (cell F (a + i))) → AllByRecursion P (cells F a n)
 cells_all P F a n f =
     All-from_get_or P (cells F a n) 0
     (λ i h.
@@ -27,7 +27,7 @@ disjunct_named F a (x, y, z, names) =
           subst (λ m. WholeName F (cell F m)) e (names (l + i) (omega arith))),
     )
 
-pub block_named : (F : List ℕ) (b : ℕ) → WholeBlock F b → All (Asks (WholeName F)) (block_at F b)
+pub block_named : (F : List ℕ) (b : ℕ) → WholeBlock F b → AllByRecursion (Asks (WholeName F)) (block_at F b)
 block_named F b (x, y, each) =
     all_counted (Asks (WholeName F)) (λ k. numbers_at F (third b k)) 0 (cell F b)
     (λ k l h. disjunct_named F (third b k) (each k (omega arith)))

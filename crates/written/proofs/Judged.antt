@@ -1,5 +1,5 @@
 -- What a line makes of a book, by how far it passes its tests.
-use Rattle.std.proofs.Common.{◌≡◌, ℕ, suc, ◌+◌, ◌<◌, Bool, true, false, cond, ◌&&◌, ltb, List, [], length, get_or, Ok, Err, Result, sym, refl, ap, ◌∙◌, subst, arith, get_or-drop, MatchResult}
+use Rattle.std.proofs.Common.{◌≡◌, ℕ, suc, ◌+◌, ◌<◌, true, false, cond, ltb, List, [], length, get_or, Ok, Err, Result, sym, ap, ◌∙◌, subst, arith, get_or-drop, MatchResult}
 use Rattle.std.proofs.lemmas.Bool.{and_parts}
 use Rattle.std.specs.Result.{result_map_both}
 use Rattle.refusal.specs.declared.Refusal.{Refusal}

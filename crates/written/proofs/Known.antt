@@ -1,6 +1,6 @@
 -- Rows of bytes are the same when they are equal, and names that were not known are told from those that were.
 use Rattle.std.proofs.Common.{◌≡◌, ℕ, true, false, eqb, List, [], ◌∷◌, ◌++◌, sym, refl, ◌∙◌, subst, ap₂, ⊎_elim, append_assoc, append-nil}
-use Rattle.std.specs.List.{AllByRecursion as All}
+use Rattle.std.specs.List.{AllByRecursion}
 use Rattle.std.proofs.lemmas.Bool.{true≢false, false≢true, eqb-true, eq-eqb, and_from, and_parts, or_from, or_parts, or_left, or_right, or_cases, cases_Bool, cond_both}
 use Rattle.formula.specs.Tokens.{Name}
 use Rattle.written.specs.Matching.{same}
@@ -70,21 +70,21 @@ fresh_distinct known (m ∷ ms) d =
     (fresh_distinct (known ++ (m ∷ [])) ms (distinct_push known m d e)))
 
 -- Every name mentioned is then known.
-pub fresh_among : (known ms : List Name) → All (λ m. among m (known ++ fresh known ms) ≡ true) ms
+pub fresh_among : (known ms : List Name) → AllByRecursion (λ m. among m (known ++ fresh known ms) ≡ true) ms
 unfolding fresh
 fresh_among known [] = tt
 fresh_among known (m ∷ ms) =
     cond_both (among m known) (fresh known ms) (m ∷ fresh (known ++ (m ∷ [])) ms)
-    (λ xs. All (λ n. among n (known ++ xs) ≡ true) (m ∷ ms))
+    (λ xs. AllByRecursion (λ n. among n (known ++ xs) ≡ true) (m ∷ ms))
     (λ e. (among_left m known (fresh known ms) e, fresh_among known ms))
-    (λ e. subst (λ xs. All (λ n. among n xs ≡ true) (m ∷ ms)) (append_assoc known (m ∷ []) (fresh (known ++ (m ∷ [])) ms)) (
+    (λ e. subst (λ xs. AllByRecursion (λ n. among n xs ≡ true) (m ∷ ms)) (append_assoc known (m ∷ []) (fresh (known ++ (m ∷ [])) ms)) (
       among_left m (known ++ (m ∷ [])) (fresh (known ++ (m ∷ [])) ms) (among_right m known (m ∷ []) (among_one m)),
       fresh_among (known ++ (m ∷ [])) ms,
     ))
 
-pub fresh_all : (P : Name → Type 0) (known ms : List Name) → All P ms → All P (fresh known ms)
+pub fresh_all : (P : Name → Type 0) (known ms : List Name) → AllByRecursion P ms → AllByRecursion P (fresh known ms)
 unfolding fresh
 fresh_all P known [] h = tt
 fresh_all P known (m ∷ ms) (p, h) =
-    cond_both (among m known) (fresh known ms) (m ∷ fresh (known ++ (m ∷ [])) ms) (All P)
+    cond_both (among m known) (fresh known ms) (m ∷ fresh (known ++ (m ∷ [])) ms) (AllByRecursion P)
     (λ _. fresh_all P known ms h) (λ _. (p, fresh_all P (known ++ (m ∷ [])) ms h))

@@ -2,7 +2,7 @@
 -- parts make the line.
 use Rattle.std.proofs.Common.{◌≡◌, ℕ, ◌+◌, ◌*◌, ◌<◌, ◌≤◌, List, [], ◌∷◌, ◌++◌, length, get_or, take, drop, sym, refl, ap, ◌∙◌, subst, ⊎_elim, arith, length-append, length-take, length-take-le}
 use lib.ListN.{length-map}
-use Rattle.std.specs.List.{AllByRecursion as All}
+use Rattle.std.specs.List.{AllByRecursion}
 use Rattle.std.proofs.lemmas.List.{get_or-drop, get_or_past, get_or-take}
 use Rattle.std.proofs.ByRecursion.{All-from_get_or}
 use Rattle.std.proofs.lemmas.Bool.{cases_lt}
@@ -41,7 +41,7 @@ part_bytes n ys h j =
     (λ l. let m = length-take n ys in let e = get_or_past (take n ys) j 0 (omega arith) in omega arith) (cases_lt j n)
 
 pub names_ok : (xs : List ℕ) (f : Fresh) → ((i : ℕ) → get_or xs i 0 < 256) → ((i : ℕ) → length (get_or (fresh_of xs f) i []) ≤ 8) →
-    All NamedOk (fresh_of xs f)
+    AllByRecursion NamedOk (fresh_of xs f)
 names_ok xs f bytes short =
     All-from_get_or NamedOk (fresh_of xs f) []
     (λ i h.
@@ -53,7 +53,7 @@ names_ok xs f bytes short =
     (short i, λ j. let b = part_bytes (name_length (drop p xs)) (drop p xs) rest j in let d = ap (λ n. get_or n j 0) e in omega arith))
 
 -- New names leave the front whole.
-pub whole_named : (s t : Store) (ns : List Name) → t ≡ with_cells s (all_name_cells ns) → All NamedOk ns → WholeNames s.front →
+pub whole_named : (s t : Store) (ns : List Name) → t ≡ with_cells s (all_name_cells ns) → AllByRecursion NamedOk ns → WholeNames s.front →
     WholeNames t.front
 whole_named s t ns e ok w =
     let sound = sound_append s.front (all_name_cells ns) (whole_sound s.front w) (sound_names ns ok) in

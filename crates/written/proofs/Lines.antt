@@ -2,7 +2,7 @@
 -- as the line's disjuncts, and its rows read as the line's words.
 use Rattle.std.proofs.Common.{◌≡◌, ℕ, zero, suc, ◌+◌, ◌^◌, ◌<◌, ◌≤◌, true, List, [], ◌∷◌, ◌++◌, map, length, get_or, refl, ap, ◌∙◌, subst, ap₂, append_assoc, append-nil, arith, length-append}
 use lib.ListN.{length-map}
-use Rattle.std.specs.List.{AllByRecursion as All}
+use Rattle.std.specs.List.{AllByRecursion}
 use Rattle.std.proofs.ByRecursion.{All-append, All-weaker, All-map, All-from_get_or}
 use Rattle.lexicon.specs.declared.side.Side.{Side}
 use Rattle.lexicon.specs.declared.side.Side.TheVariants.{Left, Right}
@@ -16,12 +16,12 @@ use Rattle.written.proofs.Blocks.{Stands, stands_within, stands_cells, stands_fr
 use Rattle.written.proofs.Names.{Plain, Sound, sound_whole, names_append, names_none, names_placed, placed, named, NamedOk, plain_below, among_placed}
 
 -- What is known of a line place by place holds of its lists.
-pub fits_from : (ds : List (Disjunct Name)) → ((k : ℕ) (s : Side) → length (side_of (get_or ds k free) s) ≤ 8) → All Fits ds
+pub fits_from : (ds : List (Disjunct Name)) → ((k : ℕ) (s : Side) → length (side_of (get_or ds k free) s) ≤ 8) → AllByRecursion Fits ds
 fits_from [] h = tt
 fits_from (d ∷ ds) h = ((h 0 Left, h 0 Right), fits_from ds (λ k. h (suc k)))
 
 pub named_from : (ds : List (Disjunct Name)) → ((k i : ℕ) (s : Side) → NamedOk (get_or (side_of (get_or ds k free) s) i [])) →
-    All (Asks NamedOk) ds
+    AllByRecursion (Asks NamedOk) ds
 named_from [] h = tt
 named_from (d ∷ ds) h = (
   (All-from_get_or NamedOk d.left [] (λ i _. h 0 i Left), All-from_get_or NamedOk d.right [] (λ i _. h 0 i Right)),
@@ -35,12 +35,12 @@ plain_words (w ∷ ws) h = All-append (λ x. x < MARK) w (word_cells ws) (plain_
 
 -- Cells that fit in the table.
 abbrev pub Small : List ℕ → Type 0
-Small xs = All (λ x. x < 2 ^ 16) xs
+Small xs = AllByRecursion (λ x. x < 2 ^ 16) xs
 
 pub small_plain : (xs : List ℕ) → Plain xs → Small xs
 small_plain xs h = All-weaker (λ x. x < MARK) (λ x. x < 2 ^ 16) (λ x l. omega arith) xs h
 
-pub small_names : (ns : List Name) → All NamedOk ns → Small (all_name_cells ns)
+pub small_names : (ns : List Name) → AllByRecursion NamedOk ns → Small (all_name_cells ns)
 unfolding all_name_cells
 small_names [] h = tt
 small_names (n ∷ ns) ((l, b), h) = (
@@ -54,7 +54,7 @@ small_cell (x ∷ xs) (l, h) zero = l
 small_cell (x ∷ xs) (l, h) (suc i) = small_cell xs h i
 
 -- The names of a front with new names, and of a front with cells that hold none.
-pub names_more : (F : List ℕ) (ns : List Name) → Sound F → All NamedOk ns →
+pub names_more : (F : List ℕ) (ns : List Name) → Sound F → AllByRecursion NamedOk ns →
     names_from 0 (with_names F ns) ≡ names_from 0 F ++ placed (length F) ns
 names_more F ns s ok =
     let e : 0 + length F ≡ length F = omega arith in
@@ -66,7 +66,7 @@ names_behind F xs s p =
     names_append 0 F xs s ∙ (ap (◌++◌ (names_from 0 F)) (names_none (0 + length F) xs p) ∙ append-nil (names_from 0 F))
 
 -- The cells of a block.
-plain_heads : (at : ℕ) (ds : List (Disjunct ℕ)) → All Fits ds → at + length (connectors ds) < MARK → Plain (heads at ds)
+plain_heads : (at : ℕ) (ds : List (Disjunct ℕ)) → AllByRecursion Fits ds → at + length (connectors ds) < MARK → Plain (heads at ds)
 unfolding heads connectors
 plain_heads at [] f h = tt
 plain_heads at (d ∷ ds) ((l, r), f) h =
@@ -74,14 +74,14 @@ plain_heads at (d ∷ ds) ((l, r), f) h =
     simp length-append
     in (omega arith, (omega arith, (omega arith, plain_heads (at + (length d.left + length d.right)) ds f (omega arith))))
 
-plain_connectors : (ds : List (Disjunct ℕ)) → All (Asks (λ p. p < MARK)) ds → Plain (connectors ds)
+plain_connectors : (ds : List (Disjunct ℕ)) → AllByRecursion (Asks (λ p. p < MARK)) ds → Plain (connectors ds)
 unfolding connectors
 plain_connectors [] h = tt
 plain_connectors (d ∷ ds) ((l, r), h) =
     All-append (λ p. p < MARK) d.left (d.right ++ connectors ds) l
     (All-append (λ p. p < MARK) d.right (connectors ds) r (plain_connectors ds h))
 
-plain_block : (b : ℕ) (ds : List (Disjunct ℕ)) → length ds ≤ 64 → All Fits ds → All (Asks (λ p. p < MARK)) ds →
+plain_block : (b : ℕ) (ds : List (Disjunct ℕ)) → length ds ≤ 64 → AllByRecursion Fits ds → AllByRecursion (Asks (λ p. p < MARK)) ds →
     b + length (block_cells b ds) < MARK → Plain (block_cells b ds)
 plain_block b ds few fits low room =
     let at = third b (length ds) in
@@ -92,14 +92,14 @@ plain_block b ds few fits low room =
     (omega arith, (omega arith, (omega arith, (omega arith, rest))))
 
 -- Disjuncts with their connectors renamed.
-asks_renamed : {A B : Type 0} (f : A → B) (P : B → Type 0) (ds : List (Disjunct A)) → All (Asks (λ x. P (f x))) ds →
-    All (Asks P) (map (renamed f) ds)
+asks_renamed : {A B : Type 0} (f : A → B) (P : B → Type 0) (ds : List (Disjunct A)) → AllByRecursion (Asks (λ x. P (f x))) ds →
+    AllByRecursion (Asks P) (map (renamed f) ds)
 asks_renamed f P ds h =
     All-map (Asks P) (renamed f) ds
     (All-weaker (Asks (λ x. P (f x))) (λ d. Asks P (renamed f d))
     (λ d p. (All-map P f d.left p.0, All-map P f d.right p.1)) ds h)
 
-fits_renamed : {A B : Type 0} (f : A → B) (ds : List (Disjunct A)) → All Fits ds → All Fits (map (renamed f) ds)
+fits_renamed : {A B : Type 0} (f : A → B) (ds : List (Disjunct A)) → AllByRecursion Fits ds → AllByRecursion Fits (map (renamed f) ds)
 fits_renamed f ds h =
     All-map Fits (renamed f) ds
     (All-weaker Fits (λ d. Fits (renamed f d))
@@ -117,8 +117,8 @@ told F s n h =
     (subst (WholeName F) e (sound_whole F s p.at_mark p.marked), subst (λ i. name_at F i ≡ n) e p.called)
 
 -- A block behind a front in which its names are told.
-module _ (F : List ℕ) (ds : List (Disjunct Name)) (known : All (Asks (Told F)) ds) where
-  pub plain_numbered : length ds ≤ 64 → All Fits ds → length (with_block F ds) < MARK →
+module _ (F : List ℕ) (ds : List (Disjunct Name)) (known : AllByRecursion (Asks (Told F)) ds) where
+  pub plain_numbered : length ds ≤ 64 → AllByRecursion Fits ds → length (with_block F ds) < MARK →
       Plain (block_cells (length F) (numbered F ds))
   plain_numbered few fits room =
       let b = block_cells (length F) (numbered F ds) in
@@ -151,7 +151,7 @@ module _ (F : List ℕ) (ds : List (Disjunct Name)) (known : All (Asks (Told F))
         ∙ renamed_back f (name_at front) ds
         (asks_weaker (Told F) (λ n. name_at front (f n) ≡ n) (λ n t. (told_after n t).1) ds known)
 
-    pub whole_block_after : length ds ≤ 64 → All Fits ds → WholeBlock (with_block F ds ++ G) (length F)
+    pub whole_block_after : length ds ≤ 64 → AllByRecursion Fits ds → WholeBlock (with_block F ds ++ G) (length F)
     whole_block_after few fits =
         let front = with_block F ds ++ G in
         let f = number_of (names_from 0 F) in
@@ -173,7 +173,7 @@ module _ (front : List ℕ) (b : ℕ) where
       (words_read ds e ws (at + length w) (stands_after front at w (word_cells ws) s (at + length w) refl))
 
   pub words_whole : WholeBlock front b → (words : List (List ℕ)) (at : ℕ) → Stands front at (word_cells words) →
-      All (WholeRow front) (word_rows at b words)
+      AllByRecursion (WholeRow front) (word_rows at b words)
   unfolding word_cells word_rows
   words_whole h [] at s = tt
   words_whole h (w ∷ ws) at s = (

@@ -2,7 +2,7 @@
 -- and a number by its name.
 use Rattle.std.proofs.Common.{◌≡◌, ℕ, zero, suc, ◌+◌, ◌<◌, ◌≤◌, Bool, true, false, cond, eqb, List, [], ◌∷◌, ◌++◌, map, length, get_or, Some, None, sym, refl, ap, ◌∙◌, ap₂, ⊎_elim, arith, length-append}
 use lib.Seq.{take-length}
-use Rattle.std.specs.List.{AllByRecursion as All}
+use Rattle.std.specs.List.{AllByRecursion}
 use Rattle.std.proofs.lemmas.Bool.{true≢false, false≢true, eqb-true, eq-eqb, ne_eqb, or_left, or_right, or_cases, cases_Bool, cond_both, cond-true, cond-false}
 use Rattle.formula.specs.Tokens.{Name}
 use Rattle.written.specs.Matching.{same}
@@ -13,7 +13,7 @@ use Rattle.written.proofs.Known.{same_eq, eq_same, Distinct}
 
 -- Cells none of which is a mark.
 abbrev pub Plain : List ℕ → Type 0
-Plain xs = All (λ x. x < MARK) xs
+Plain xs = AllByRecursion (λ x. x < MARK) xs
 
 -- Behind every mark lie its length and so many cells.
 abbrev pub Sound : List ℕ → Type 0
@@ -104,7 +104,7 @@ plain_name n (l, b) = (omega arith, plain_below n b)
 sound_name : (n : Name) → NamedOk n → Sound (name_cells n)
 sound_name n ok = (λ e. omega arith, sound_plain (length n ∷ n) (plain_name n ok))
 
-pub sound_names : (ns : List Name) → All NamedOk ns → Sound (all_name_cells ns)
+pub sound_names : (ns : List Name) → AllByRecursion NamedOk ns → Sound (all_name_cells ns)
 unfolding all_name_cells
 sound_names [] h = tt
 sound_names (n ∷ ns) (ok, h) = sound_append (name_cells n) (all_name_cells ns) (sound_name n ok) (sound_names ns h)
@@ -123,7 +123,7 @@ unfolding names_from
 names_one q n ok =
     ap₂ ◌∷◌ (λ i. record { name = take-length n i; number = q }) (names_none (suc q) (length n ∷ n) (plain_name n ok))
 
-pub names_placed : (q : ℕ) (ns : List Name) → All NamedOk ns → names_from q (all_name_cells ns) ≡ placed q ns
+pub names_placed : (q : ℕ) (ns : List Name) → AllByRecursion NamedOk ns → names_from q (all_name_cells ns) ≡ placed q ns
 unfolding names_from all_name_cells
 names_placed q [] h = refl
 names_placed q (n ∷ ns) (ok, h) =

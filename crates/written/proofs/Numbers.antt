@@ -1,5 +1,5 @@
 -- In a store a name has one number, and a number one name: the names are all different, and their numbers rise.
-use Rattle.std.proofs.Common.{◌≡◌, ℕ, zero, suc, ◌<◌, ◌≤◌, Bool, true, false, cond, ◌||◌, eqb, List, [], ◌∷◌, map, length, get_or, take, drop, sym, refl, ap, ◌∙◌, subst, arith}
+use Rattle.std.proofs.Common.{◌≡◌, ℕ, zero, suc, ◌<◌, ◌≤◌, Bool, true, false, cond, ◌||◌, eqb, List, [], ◌∷◌, map, length, get_or, take, drop, sym, refl, ap, arith}
 use Rattle.formula.specs.Tokens.{Name}
 use Rattle.written.specs.Drafts.{OneNumber, unnamed}
 use Rattle.written.specs.Matching.{same}

@@ -2,7 +2,7 @@
 -- the names that were new.
 use Rattle.std.proofs.Common.{◌≡◌, ℕ, ◌^◌, ◌<◌, ◌≤◌, true, List, [], ◌++◌, map, length, get_or, sym, refl, ap, ◌∙◌, subst, ap₂, append_assoc, append-nil, arith, length-append}
 use lib.ListN.{length-map}
-use Rattle.std.specs.List.{AllByRecursion as All}
+use Rattle.std.specs.List.{AllByRecursion}
 use Rattle.std.proofs.lemmas.List.{map-append, get_or-map, get_or_past}
 use Rattle.std.proofs.ByRecursion.{All-append, All-weaker, All-get_or, All-from_get_or}
 use Rattle.lexicon.specs.declared.side.Side.{Side}
@@ -51,7 +51,7 @@ module _ (s : Store) (whole : Whole s) (words : List (List ℕ)) (ds : List (Dis
   sound : Sound s.front
   sound = whole_sound s.front whole.1
 
-  new_ok : All NamedOk (new_names s ds)
+  new_ok : AllByRecursion NamedOk (new_names s ds)
   new_ok = fresh_all NamedOk (names_of s) (mentioned ds) (all_mentioned NamedOk ds (named_from ds names))
 
   -- The front with the new names.
@@ -68,12 +68,12 @@ module _ (s : Store) (whole : Whole s) (words : List (List ℕ)) (ds : List (Dis
       ∙ (map-append f (names_from 0 s.front) (placed (length s.front) ns)
       ∙ ap (◌++◌ (names_of s)) (placed_names (length s.front) ns))
 
-  all_told : All (Asks (Told (with_new s ds))) ds
+  all_told : AllByRecursion (Asks (Told (with_new s ds))) ds
   all_told =
       let N = with_new s ds in
       mentioned_all (Told N) ds
       (All-weaker (λ m. among m (named 0 N) ≡ true) (Told N) (told N sound_named) (mentioned ds)
-      (subst (λ ns. All (λ m. among m ns ≡ true) (mentioned ds)) (sym named_more) (fresh_among (names_of s) (mentioned ds))))
+      (subst (λ ns. AllByRecursion (λ m. among m ns ≡ true) (mentioned ds)) (sym named_more) (fresh_among (names_of s) (mentioned ds))))
 
   -- The cells behind the names.
   plain_behind : Plain (block_cells (length (with_new s ds)) (numbered (with_new s ds) ds))
@@ -119,7 +119,7 @@ module _ (s : Store) (whole : Whole s) (words : List (List ℕ)) (ds : List (Dis
       let blocked : List ℕ = with_block (with_new s ds) ds in
       record { before = blocked; rest = []; is = ap (◌++◌ blocked) (sym (append-nil (word_cells words))); place = refl }
 
-  old_rows : All (WholeRow s.front) s.rows
+  old_rows : AllByRecursion (WholeRow s.front) s.rows
   old_rows = All-from_get_or (WholeRow s.front) s.rows no_row whole.0
 
   pub entries_after : (model (with_line s words ds)).entries
@@ -135,7 +135,7 @@ module _ (s : Store) (whole : Whole s) (words : List (List ℕ)) (ds : List (Dis
       (λ r h. ap (λ f. entry_of f r) split ∙ entry_kept s.front added r h) s.rows old_rows))
       (words_read front (length N) ds (block_after N ds all_told (word_cells words)) words at stands_words)
 
-  whole_rows : All (WholeRow (with_line s words ds).front) (with_line s words ds).rows
+  whole_rows : AllByRecursion (WholeRow (with_line s words ds).front) (with_line s words ds).rows
   whole_rows =
       let N = with_new s ds in
       let front = (with_line s words ds).front in

@@ -1,7 +1,7 @@
 -- What a report reads from a table is what the store holds.
-use Rattle.std.proofs.Common.{◌≡◌, ℕ, suc, ◌+◌, ◌<◌, ◌≤◌, Bool, true, false, cond, eqb, List, [], ◌∷◌, length, get_or, take, drop, Some, None, unwrap_or, sym, refl, ap, ◌∙◌, arith}
+use Rattle.std.proofs.Common.{◌≡◌, ℕ, suc, ◌+◌, ◌<◌, ◌≤◌, true, false, cond, eqb, List, [], ◌∷◌, length, get_or, take, drop, Some, None, unwrap_or, sym, ap, ◌∙◌, arith}
 use Rattle.std.proofs.lemmas.List.{drop_all, drop_more, get_or_past}
-use Rattle.written.specs.Model.{Entry, Named, name_of, no_entry}
+use Rattle.written.specs.Model.{Entry, name_of, no_entry}
 use Rattle.written.specs.Pages.{store}
 use Rattle.written.specs.Store.{MARK, cell, model, name_at, names_from}
 use Rattle.written.proofs.Found.{length_entries}

@@ -1,7 +1,7 @@
 -- The words of a line: which of them stand twice or are known, how many bytes they have, and that they are bytes.
 use Rattle.std.proofs.Common.{◌≡◌, ℕ, zero, suc, ◌+◌, ◌<◌, ◌≤◌, Bool, true, false, not, ◌&&◌, ◌||◌, eqb, List, [], ◌∷◌, ◌++◌, length, get_or, sym, refl, ap, ◌∙◌, ap₂, ⊎_elim, append_assoc, append-nil, arith}
 use mathlib.Core.Bool.{or-false, or_assoc}
-use Rattle.std.specs.List.{AllByRecursion as All}
+use Rattle.std.specs.List.{AllByRecursion}
 use Rattle.std.proofs.ByRecursion.{All-from_get_or}
 use Rattle.std.proofs.lemmas.Bool.{eqb-true, eqb-false, eq-eqb, ne_eqb, cond-true, cond-false, cond_both, cases_Bool, and_parts}
 use Rattle.formula.specs.Cuts.{run}
@@ -115,23 +115,23 @@ pub bytes_counted : (m : ℕ) (xs : List ℕ) → length (word_cells (pieces m x
 bytes_counted m xs = (counted m xs).1
 
 -- What holds of all bytes holds of those of the pieces.
-all_onto : (P : ℕ → Type 0) (b : ℕ) (ps : List (List ℕ)) → P b → All (All P) ps → All (All P) (onto b ps)
+all_onto : (P : ℕ → Type 0) (b : ℕ) (ps : List (List ℕ)) → P b → AllByRecursion (AllByRecursion P) ps → AllByRecursion (AllByRecursion P) (onto b ps)
 all_onto P b [] h hs = ((h, tt), tt)
 all_onto P b (p ∷ ps) h (hp, hs) = ((h, hp), hs)
 
-pub all_pieces : (P : ℕ → Type 0) (m : ℕ) (xs : List ℕ) → All P xs → All (All P) (pieces m xs)
+pub all_pieces : (P : ℕ → Type 0) (m : ℕ) (xs : List ℕ) → AllByRecursion P xs → AllByRecursion (AllByRecursion P) (pieces m xs)
 unfolding pieces
 all_pieces P m [] h = (tt, tt)
 all_pieces P m (x ∷ xs) (h, hs) =
-    cond_both (eqb x m) ([] ∷ pieces m xs) (onto x (pieces m xs)) (All (All P)) (λ _. (tt, all_pieces P m xs hs))
+    cond_both (eqb x m) ([] ∷ pieces m xs) (onto x (pieces m xs)) (AllByRecursion (AllByRecursion P)) (λ _. (tt, all_pieces P m xs hs))
     (λ _. all_onto P x (pieces m xs) h (all_pieces P m xs hs))
 
-below_256 : (xs : List ℕ) → All (λ b. b < 256) xs → (j : ℕ) → get_or xs j 0 < 256
+below_256 : (xs : List ℕ) → AllByRecursion (λ b. b < 256) xs → (j : ℕ) → get_or xs j 0 < 256
 below_256 [] h j = omega arith
 below_256 (x ∷ xs) (h, hs) zero = h
 below_256 (x ∷ xs) (h, hs) (suc j) = below_256 xs hs j
 
-bytes_at : (ps : List (List ℕ)) → All (All (λ b. b < 256)) ps → (w j : ℕ) → get_or (get_or ps w []) j 0 < 256
+bytes_at : (ps : List (List ℕ)) → AllByRecursion (AllByRecursion (λ b. b < 256)) ps → (w j : ℕ) → get_or (get_or ps w []) j 0 < 256
 bytes_at [] h w j = omega arith
 bytes_at (p ∷ ps) (h, hs) zero j = below_256 p h j
 bytes_at (p ∷ ps) (h, hs) (suc w) j = bytes_at ps hs w j

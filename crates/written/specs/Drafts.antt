@@ -1,5 +1,5 @@
 -- What a draft holds, as a curator sees it, and what giving it a line or a text does.
-use Rattle.std.specs.Prelude.{◌≡◌, ℕ, suc, ◌+◌, ◌<◌, Bool, true, false, cond, ◌||◌, List, [], ◌∷◌, ◌++◌, map, length, Some, None, Ok, Err, Option, Result, nat_lt, slice_index_or}
+use Rattle.std.specs.Prelude.{◌≡◌, ℕ, suc, ◌+◌, ◌<◌, cond, ◌||◌, List, [], ◌∷◌, ◌++◌, map, length, Some, None, Ok, Err, Option, Result, nat_lt, slice_index_or}
 use Rattle.refusal.specs.declared.Refusal.TheVariants.{LineForm, WordTaken, TableShort}
 use Rattle.refusal.specs.declared.fault.Fault.{Fault}
 use Rattle.formula.specs.Faults.{carried, then}

@@ -1,7 +1,7 @@
 -- What a draft holds, and the dictionary that it becomes: words with their disjuncts, and the names of connectors with
 -- their numbers.
-use Rattle.std.specs.Prelude.{◌≡◌, ℕ, suc, ◌+◌, ◌*◌, Bool, true, false, cond, ◌&&◌, ◌||◌, List, [], ◌∷◌, ◌++◌, map, length, Some, None, Option, ◌==◌, slice_index_or}
-use Rattle.lexicon.specs.Lexicon.{Disjunct, Lexicon, free}
+use Rattle.std.specs.Prelude.{ℕ, suc, Bool, false, cond, ◌||◌, List, [], ◌∷◌, ◌++◌, map, length, Some, None, Option, ◌==◌, slice_index_or}
+use Rattle.lexicon.specs.Lexicon.{Disjunct, Lexicon}
 use Rattle.formula.specs.Tokens.{Name}
 use Rattle.written.specs.Matching.{same, names_match}
 

@@ -2,8 +2,8 @@
 -- back. A name is a mark, its length and its bytes, and its number is the place of the mark. A block of disjuncts is its
 -- number of disjuncts and three cells to spare, then for each disjunct the lengths of its two lists and the place of its
 -- connectors, and then the connectors' numbers. A word's row tells where its bytes and its block of disjuncts are.
-use Rattle.std.specs.Prelude.{◌≡◌, ℕ, zero, suc, ◌+◌, ◌*◌, ◌^◌, ◌<◌, ◌≤◌, Bool, true, false, cond, List, [], ◌∷◌, ◌++◌, map, length, take, drop, ◌==◌, slice_index, slice_index_or}
-use Rattle.lexicon.specs.Lexicon.{Disjunct, free}
+use Rattle.std.specs.Prelude.{◌≡◌, ℕ, zero, suc, ◌+◌, ◌*◌, ◌^◌, ◌<◌, ◌≤◌, cond, List, [], ◌∷◌, ◌++◌, map, length, take, drop, ◌==◌, slice_index, slice_index_or}
+use Rattle.lexicon.specs.Lexicon.{Disjunct}
 use Rattle.formula.specs.Tokens.{Name}
 use Rattle.written.specs.Model.{Entry, Named, Model, renamed, number_of, mentioned, fresh}
 

@@ -11,7 +11,7 @@ spells-requires c =
     let T = c.args.cells.now in
     let s = store T c.args.used c.args.words in
     word_inside T c.args.used c.args.words c.loop-k.k (omega arith) (omega arith) (whole_known s c.requires.whole)
-    c.row-place-row.result c.from-at.result c.from-len.result c.row-place-row.ensures c.from-at.ensures c.from-len.ensures
+    c.row_place-row.result c.from-at.result c.from-len.result c.row_place-row.ensures c.from-at.ensures c.from-len.ensures
 
 pub returns-then-spells : goal.returns-then-spells
 returns-then-spells c =
@@ -20,7 +20,7 @@ returns-then-spells c =
     let w = c.args.word.now in
     let n = length_entries T c.args.used c.args.words in
     let r = word_read T c.args.used c.args.words c.loop-k.k (omega arith) (omega arith) (whole_known s c.requires.whole)
-    c.row-place-row.result c.from-at.result c.from-len.result c.row-place-row.ensures c.from-at.ensures c.from-len.ensures
+    c.row_place-row.result c.from-at.result c.from-len.result c.row_place-row.ensures c.from-at.ensures c.from-len.ensures
     in sym (find_here (model s).entries w c.loop-k.k (omega arith) (ap (λ x. same x w) (sym r) ∙ sym c.if-spells.ensures))
     ∙ c.loop-k.invariant
 
@@ -31,7 +31,7 @@ loop-k-preserved c =
     let w = c.args.word.now in
     let n = length_entries T c.args.used c.args.words in
     let r = word_read T c.args.used c.args.words c.loop-k.k (omega arith) (omega arith) (whole_known s c.requires.whole)
-    c.row-place-row.result c.from-at.result c.from-len.result c.row-place-row.ensures c.from-at.ensures c.from-len.ensures
+    c.row_place-row.result c.from-at.result c.from-len.result c.row_place-row.ensures c.from-at.ensures c.from-len.ensures
     in find_skip (model s).entries w c.loop-k.k (omega arith) (ap (λ x. same x w) (sym r) ∙ sym c.if-spells.ensures)
     ∙ c.loop-k.invariant
 

@@ -1,5 +1,5 @@
-use Rattle.std.proofs.Common.{◌≡◌, ℕ, ◌+◌, ◌<◌, ◌≤◌, List, [], ◌∷◌, ◌++◌, map, length, get_or, take, sym, refl, ap, ◌∙◌, arith}
-use Rattle.formula.specs.Shown.{disjunct_of, disjuncts_of}
+use Rattle.std.proofs.Common.{◌≡◌, ◌<◌, map, length, get_or, take, refl, ap, ◌∙◌, arith}
+use Rattle.formula.specs.Shown.{disjunct_of}
 use Rattle.formula.proofs.Tables.{length_names}
 use Rattle.written.specs.Model.{mentioned}
 use Rattle.written.proofs.Costs.{mentioned_count}

@@ -6,5 +6,5 @@ pub returns : goal.returns
 returns c =
     let xs = c.args.formula.now
     in let d = length_disjuncts xs c.args.disjuncts.now
-    in let k = c.connector-count.ensures.value xs
-    in omega (arith, c.word-cells.ensures.value, c.name-cells.ensures.value)
+    in let k = c.connector_count.ensures.value xs
+    in omega (arith, c.word_cells.ensures.value, c.name_cells.ensures.value)

@@ -1,4 +1,4 @@
-use Rattle.std.proofs.Common.{◌≡◌, ℕ, ◌+◌, ◌<◌, ◌≤◌, List, [], ◌∷◌, ◌++◌, map, length, get_or, take, sym, refl, ap, ◌∙◌, arith}
+use Rattle.std.proofs.Common.{◌<◌, [], map, length, get_or, take, refl, ap, ◌∙◌, arith}
 use Rattle.formula.specs.Cuts.{name_there}
 use Rattle.formula.proofs.Kept.{read_at}
 use Rattle.written.specs.Costs.{each_takes}
@@ -17,7 +17,7 @@ loop-i-preserved c =
     in let i = c.loop-i.i
     in let l : i < length ps = omega arith
     in let n = name_there xs (get_or ps i 0)
-    in let same = ap length c.name-at.ensures
+    in let same = ap length c.name_at.ensures
     in let short = c.requires i
     in let at = ap length (read_at (name_there xs) ps c.args.fresh.now.len i 0 [] c.loop-i-test.true (omega arith))
     in let e = ap (each_takes 2) (held_more (name_there xs) ps i 0 l) ∙ takes_push 2 (map (name_there xs) (take i ps)) n

@@ -1,6 +1,6 @@
-use Rattle.std.proofs.Common.{◌≡◌, ℕ, ◌+◌, Bool, true, false, ◌||◌, List, ◌∷◌, sym, refl, ap, ◌∙◌, arith}
+use Rattle.std.proofs.Common.{◌≡◌, ℕ, ◌+◌, Bool, true, false, ◌||◌, List, ◌∷◌, sym, ap, ◌∙◌, arith}
 use Rattle.std.specs.List.{between}
-use Rattle.written.specs.Lines.{pieces, pieces_from, some_among}
+use Rattle.written.specs.Lines.{pieces_from, some_among}
 use Rattle.written.specs.Model.{among}
 use Rattle.written.specs.Pages.{store}
 use Rattle.written.specs.Store.{model}
@@ -24,18 +24,18 @@ returns-then-find c =
     let s = (model (store c.args.cells.now c.args.used c.args.count)).entries
     in let xs = c.args.words.now
     in let n = length_entries c.args.cells.now c.args.used c.args.count
-    in let w = between c.loop-from.from c.piece-end-end.result xs
+    in let w = between c.loop-from.from c.piece_end-end.result xs
     in let f = found_among 0 s w (omega (arith, c.requires.few)) (λ e. c.if-find.true (c.find.ensures ∙ e))
-    in sym (sym c.loop-from.invariant ∙ next (words_of s) (pieces_from 32 xs c.loop-from.from) w (pieces_from 32 xs (c.piece-end-end.result + 1)) true c.piece-end-end.ensures.cuts f)
+    in sym (sym c.loop-from.invariant ∙ next (words_of s) (pieces_from 32 xs c.loop-from.from) w (pieces_from 32 xs (c.piece_end-end.result + 1)) true c.piece_end-end.ensures.cuts f)
 
 pub loop-from-preserved : goal.loop-from-preserved
 loop-from-preserved c =
     let s = (model (store c.args.cells.now c.args.used c.args.count)).entries
     in let xs = c.args.words.now
     in let n = length_entries c.args.cells.now c.args.used c.args.count
-    in let w = between c.loop-from.from c.piece-end-end.result xs
+    in let w = between c.loop-from.from c.piece_end-end.result xs
     in let f = none_among 0 s w (omega (arith, c.requires.few)) (sym c.find.ensures ∙ c.if-find.false)
-    in sym (next (words_of s) (pieces_from 32 xs c.loop-from.from) w (pieces_from 32 xs (c.piece-end-end.result + 1)) false c.piece-end-end.ensures.cuts f) ∙ c.loop-from.invariant
+    in sym (next (words_of s) (pieces_from 32 xs c.loop-from.from) w (pieces_from 32 xs (c.piece_end-end.result + 1)) false c.piece_end-end.ensures.cuts f) ∙ c.loop-from.invariant
 
 pub returns : goal.returns
 unfolding some_among

@@ -8,6 +8,6 @@ returns c =
     let w = c.args.word.now in
     let some = lt-ltb 0 (length w) (search rules) in
     let short = le-leb (length w) 24 (omega arith) in
-    let p = c.piece-end.ensures in
-    let place = mark_place 10 w c.piece-end.result p.within.1 p.clear p.stops in
+    let p = c.piece_end.ensures in
+    let place = mark_place 10 w c.piece_end.result p.within.1 p.clear p.stops in
     simp (some, short, place)

@@ -7,13 +7,13 @@ use Rattle.written.proofs.line.good_words.Goals as goal
 pub loop-from-init : goal.loop-from-init
 loop-from-init c = ap (every good_word) (pieces_first 32 c.args.words.now)
 
-pub returns-then-not-good-word : goal.returns-then-not-good-word
-returns-then-not-good-word c =
-    every_more c.piece-end-end.ensures.cuts good_word c.loop-from.invariant false c.if-not-good-word.ensures
+pub returns-then-not-good_word : goal.returns-then-not-good_word
+returns-then-not-good_word c =
+    every_more c.piece_end-end.ensures.cuts good_word c.loop-from.invariant false c.if-not-good_word.ensures
 
 pub loop-from-preserved : goal.loop-from-preserved
 loop-from-preserved c =
-    every_more c.piece-end-end.ensures.cuts good_word c.loop-from.invariant true c.if-not-good-word.ensures
+    every_more c.piece_end-end.ensures.cuts good_word c.loop-from.invariant true c.if-not-good_word.ensures
 
 pub returns : goal.returns
 unfolding every

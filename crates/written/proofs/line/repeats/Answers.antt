@@ -7,13 +7,13 @@ use Rattle.written.proofs.line.repeats.Goals as goal
 pub loop-from-init : goal.loop-from-init
 loop-from-init c = ap (any_known []) (pieces_first 32 c.args.words.now)
 
-pub returns-then-stands-from : goal.returns-then-stands-from
-returns-then-stands-from c =
-    repeats_more c.piece-end-end.ensures.cuts c.loop-from.invariant true c.if-stands-from.ensures
+pub returns-then-stands_from : goal.returns-then-stands_from
+returns-then-stands_from c =
+    repeats_more c.piece_end-end.ensures.cuts c.loop-from.invariant true c.if-stands_from.ensures
 
 pub loop-from-preserved : goal.loop-from-preserved
 loop-from-preserved c =
-    repeats_more c.piece-end-end.ensures.cuts c.loop-from.invariant false c.if-stands-from.ensures
+    repeats_more c.piece_end-end.ensures.cuts c.loop-from.invariant false c.if-stands_from.ensures
 
 pub returns : goal.returns
 unfolding any_known

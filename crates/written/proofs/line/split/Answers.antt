@@ -5,7 +5,7 @@ use Rattle.written.specs.Lines.{pieces, every, good_word, good_line, tab_place, 
 use Rattle.written.proofs.Cuts.{ClearIn}
 use Rattle.written.proofs.Words.{mark_place}
 use Rattle.written.proofs.line.split.Goals as goal
-use Rattle.written.proofs.line.split.Goals.{then-tab-line-via-then-tab-line, then-tab-line-via-else-tab-line+then-not-good-words}
+use Rattle.written.proofs.line.split.Goals.{then-tab-line-via-then-tab-line, then-tab-line-via-else-tab-line+then-not-good_words}
 
 -- A line by the place of its tab.
 module _ (xs : List ℕ) (e : ℕ) (to : e ≤ length xs) (clear : ClearIn 9 xs 0 e) (stops : e < length xs → get_or xs e 0 ≡ 9) where
@@ -34,11 +34,11 @@ module _ (xs : List ℕ) (e : ℕ) (to : e ≤ length xs) (clear : ClearIn 9 xs 
 pub returns-then-tab-line : goal.returns-then-tab-line
 returns-then-tab-line c =
     let xs = c.args.line.now in
-    let e = c.piece-end-tab.result in
-    let p = c.piece-end-tab.ensures in (
+    let e = c.piece_end-tab.result in
+    let p = c.piece_end-tab.ensures in (
       elim c.then-tab-line.branch [
         | then-tab-line-via-then-tab-line w ↦ no_tab xs e p.within.1 p.clear p.stops w.if-tab-line.true
-        | then-tab-line-via-else-tab-line+then-not-good-words w ↦ bad_words xs e p.within.1 p.clear p.stops w.if-not-good-words.ensures
+        | then-tab-line-via-else-tab-line+then-not-good_words w ↦ bad_words xs e p.within.1 p.clear p.stops w.if-not-good_words.ensures
       ],
       refl,
     )
@@ -46,9 +46,9 @@ returns-then-tab-line c =
 pub returns : goal.returns
 returns c =
     let xs = c.args.line.now in
-    let e = c.piece-end-tab.result in
-    let p = c.piece-end-tab.ensures in (
-      good xs e p.within.1 p.clear p.stops c.if-tab-line.false c.if-not-good-words.ensures,
+    let e = c.piece_end-tab.result in
+    let p = c.piece_end-tab.ensures in (
+      good xs e p.within.1 p.clear p.stops c.if-tab-line.false c.if-not-good_words.ensures,
       ap (λ n. take n xs) (sym (place xs e p.within.1 p.clear p.stops)),
       rest xs e p.within.1 p.clear p.stops,
     )

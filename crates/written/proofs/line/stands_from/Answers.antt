@@ -4,13 +4,13 @@ use Rattle.written.proofs.Cuts.{pieces_none}
 use Rattle.written.proofs.Words.{among_more}
 use Rattle.written.proofs.line.stands_from.Goals as goal
 
-pub returns-then-same-bytes : goal.returns-then-same-bytes
-returns-then-same-bytes c =
-    among_more c.piece-end-end.ensures.cuts c.args.word.now c.loop-at.invariant true c.if-same-bytes.ensures
+pub returns-then-same_bytes : goal.returns-then-same_bytes
+returns-then-same_bytes c =
+    among_more c.piece_end-end.ensures.cuts c.args.word.now c.loop-at.invariant true c.if-same_bytes.ensures
 
 pub loop-at-preserved : goal.loop-at-preserved
 loop-at-preserved c =
-    among_more c.piece-end-end.ensures.cuts c.args.word.now c.loop-at.invariant false c.if-same-bytes.ensures
+    among_more c.piece_end-end.ensures.cuts c.args.word.now c.loop-at.invariant false c.if-same_bytes.ensures
 
 pub returns : goal.returns
 unfolding among

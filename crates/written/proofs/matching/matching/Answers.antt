@@ -8,6 +8,6 @@ returns c =
     let a = c.args.a.now in
     let b = c.args.b.now in
     record {
-      value = c.names-match.ensures;
-      law = subst (λ (r : Bool). Decides r (Matching a b)) (sym c.names-match.ensures) (matching_known a b);
+      value = c.names_match.ensures;
+      law = subst (λ (r : Bool). Decides r (Matching a b)) (sym c.names_match.ensures) (matching_known a b);
     }

@@ -1,14 +1,14 @@
-use Rattle.std.proofs.Common.{◌≡◌, ℕ, zero, ◌+◌, ◌<◌, ◌≤◌, List, [], ◌∷◌, ◌++◌, map, length, get_or, take, sym, refl, ap, ◌∙◌, append-nil, arith}
+use Rattle.std.proofs.Common.{◌≡◌, ◌<◌, [], ◌++◌, map, length, get_or, take, sym, ap, ◌∙◌, append-nil, arith}
 use Rattle.formula.specs.Cuts.{name_there}
-use Rattle.formula.specs.Shown.{disjunct_of, disjuncts_of, names_of}
+use Rattle.formula.specs.Shown.{disjunct_of, names_of}
 use Rattle.written.specs.Model.{fresh, mentioned}
 use Rattle.written.specs.Noted.{fresh_of, known}
-use Rattle.written.proofs.Noted.{noted_none, noted_more, held_more, mentioned_push}
+use Rattle.written.proofs.Noted.{noted_more, held_more, mentioned_push}
 use Rattle.written.proofs.note.fresh_names.Goals as goal
 
 pub loop-k-init : goal.loop-k-init
 unfolding fresh mentioned
-loop-k-init c = (omega (arith, c.no-names-fresh.ensures), ap (λ n. map (name_there c.args.formula.now) (take n c.no-names-fresh.result.places)) c.no-names-fresh.ensures)
+loop-k-init c = (omega (arith, c.no_names-fresh.ensures), ap (λ n. map (name_there c.args.formula.now) (take n c.no_names-fresh.result.places)) c.no_names-fresh.ensures)
 
 pub loop-k-preserved : goal.loop-k-preserved
 loop-k-preserved c =
@@ -20,11 +20,11 @@ loop-k-preserved c =
     in let ms = mentioned (map (disjunct_of xs) (take k ts))
     in let l : k < length ts = omega arith
     in (
-      omega (arith, c.note-list.ensures.longer, c.note-list-in-loop-k.ensures.longer, c.loop-k.invariant.0),
-      noted_more ks [] ms (names_of xs d.left ++ names_of xs d.right) (fresh_of xs c.loop-k.fresh) (fresh_of xs c.note-list-in-loop-k.new.fresh)
+      omega (arith, c.note_list.ensures.longer, c.note_list-in-loop-k.ensures.longer, c.loop-k.invariant.0),
+      noted_more ks [] ms (names_of xs d.left ++ names_of xs d.right) (fresh_of xs c.loop-k.fresh) (fresh_of xs c.note_list-in-loop-k.new.fresh)
           c.loop-k.invariant.1
-          (noted_more ks (fresh_of xs c.loop-k.fresh) (names_of xs d.left) (names_of xs d.right) (fresh_of xs c.note-list.new.fresh) (fresh_of xs c.note-list-in-loop-k.new.fresh)
-          c.note-list.ensures.names c.note-list-in-loop-k.ensures.names)
+          (noted_more ks (fresh_of xs c.loop-k.fresh) (names_of xs d.left) (names_of xs d.right) (fresh_of xs c.note_list.new.fresh) (fresh_of xs c.note_list-in-loop-k.new.fresh)
+          c.note_list.ensures.names c.note_list-in-loop-k.ensures.names)
           ∙ ap (fresh (ks ++ [])) (sym (ap mentioned (held_more (disjunct_of xs) ts k c.index-disjuncts-k.result l)
           ∙ mentioned_push (map (disjunct_of xs) (take k ts)) (disjunct_of xs d))),
     )

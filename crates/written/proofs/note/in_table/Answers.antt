@@ -13,5 +13,5 @@ some_if false k = refl
 pub returns : goal.returns
 returns c =
     let ms = names_from 0 (take c.args.used c.args.cells.now)
-    in c.is-some.ensures ∙ ap is_some (c.number.ensures ∙ lookup_known ms c.args.name.now)
+    in c.is_some.ensures ∙ ap is_some (c.number.ensures ∙ lookup_known ms c.args.name.now)
     ∙ some_if (among c.args.name.now (known c.args.cells.now c.args.used)) (number_of ms c.args.name.now)

@@ -1,4 +1,4 @@
-use Rattle.std.proofs.Common.{◌≡◌, ℕ, Bool, true, false, ◌||◌, List, [], ◌∷◌, ◌++◌, sym, refl, ap, ◌∙◌, arith}
+use Rattle.std.proofs.Common.{◌≡◌, Bool, true, false, ◌||◌, List, ◌++◌, sym, ap, ◌∙◌, arith}
 use Rattle.formula.specs.Cuts.{name_there}
 use Rattle.formula.specs.Tokens.{Name}
 use Rattle.written.specs.Model.{among}
@@ -17,7 +17,7 @@ returns-then-not-met c =
     in let ks = known c.args.cells.now c.args.used
     in record {
       names = c.push.ensures.names xs
-          ∙ sym (noted_one ks fs (name_there xs c.args.place) false (at_name c.name-at.result.now _ ks fs false c.name-at.ensures c.if-not-met.ensures));
+          ∙ sym (noted_one ks fs (name_there xs c.args.place) false (at_name c.name_at.result.now _ ks fs false c.name_at.ensures c.if-not-met.ensures));
       longer = omega (arith, c.push.ensures.longer);
     }
 
@@ -27,6 +27,6 @@ returns-else-not-met c =
     in let fs = fresh_of xs c.args.fresh.now
     in let ks = known c.args.cells.now c.args.used
     in record {
-      names = sym (noted_one ks fs (name_there xs c.args.place) true (at_name c.name-at.result.now _ ks fs true c.name-at.ensures c.if-not-met.ensures));
+      names = sym (noted_one ks fs (name_there xs c.args.place) true (at_name c.name_at.result.now _ ks fs true c.name_at.ensures c.if-not-met.ensures));
       longer = omega arith;
     }

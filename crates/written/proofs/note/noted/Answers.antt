@@ -22,15 +22,15 @@ more xs n f i m b h q e =
     (read_at (name_there xs) f.places f.len i 0 [] h (omega arith) ∙ sym q)
     ∙ ap (λ (u : Bool). u || among n (drop (i + 1) (fresh_of xs f))) (sym e)
 
-pub returns-then-same-bytes : goal.returns-then-same-bytes
-returns-then-same-bytes c =
-    sym (c.loop-i.invariant ∙ more c.args.formula.now c.args.name.now c.args.fresh.now c.loop-i.i c.name-at.result.now true
-    c.loop-i-test.true c.name-at.ensures c.if-same-bytes.ensures)
+pub returns-then-same_bytes : goal.returns-then-same_bytes
+returns-then-same_bytes c =
+    sym (c.loop-i.invariant ∙ more c.args.formula.now c.args.name.now c.args.fresh.now c.loop-i.i c.name_at.result.now true
+    c.loop-i-test.true c.name_at.ensures c.if-same_bytes.ensures)
 
 pub loop-i-preserved : goal.loop-i-preserved
 loop-i-preserved c =
-    c.loop-i.invariant ∙ more c.args.formula.now c.args.name.now c.args.fresh.now c.loop-i.i c.name-at.result.now false
-    c.loop-i-test.true c.name-at.ensures c.if-same-bytes.ensures
+    c.loop-i.invariant ∙ more c.args.formula.now c.args.name.now c.args.fresh.now c.loop-i.i c.name_at.result.now false
+    c.loop-i-test.true c.name_at.ensures c.if-same_bytes.ensures
 
 pub returns : goal.returns
 unfolding among

@@ -10,7 +10,7 @@ returns c =
     let T = w.table.now in
     let s = store T w.used w.words in
     let e : c.from.result ≡ (row_at T c.args.word).block =
-    c.from.ensures ∙ ap (λ p. get_or T (p + 2) 0) c.row-place-row.ensures
+    c.from.ensures ∙ ap (λ p. get_or T (p + 2) 0) c.row_place-row.ensures
     in record {
       value = e;
       inside =

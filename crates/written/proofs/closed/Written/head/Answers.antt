@@ -10,8 +10,8 @@ block-requires c =
     let w = c.args.self.now in
     word_inside w.table.now w.used w.words w.roomy c.args.word c.args.disjunct c.requires
 
-pub overflow-mul-result : goal.overflow-mul-result
-overflow-mul-result c =
+pub overflow_mul-result : goal.overflow_mul-result
+overflow_mul-result c =
     let w = c.args.self.now in
     let T = w.table.now in
     let s = store T w.used w.words in
@@ -21,8 +21,8 @@ overflow-mul-result c =
     let p = c.requires in
     omega arith
 
-pub overflow-add-result-2 : goal.overflow-add-result-2
-overflow-add-result-2 c =
+pub overflow_add-result-2 : goal.overflow_add-result-2
+overflow_add-result-2 c =
     let w = c.args.self.now in
     let T = w.table.now in
     let s = store T w.used w.words in

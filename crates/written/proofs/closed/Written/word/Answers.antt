@@ -22,14 +22,14 @@ returns c =
     let len = c.from-len.result in
     let e : at + len - at ≡ len = omega arith in
     ap (λ n. cells T at n) e
-    ∙ (word_read T w.used w.words k (omega arith) (omega arith) (whole_known s w.whole) c.row-place-row.result at len
-    c.row-place-row.ensures c.from-at.ensures c.from-len.ensures
+    ∙ (word_read T w.used w.words k (omega arith) (omega arith) (whole_known s w.whole) c.row_place-row.result at len
+    c.row_place-row.ensures c.from-at.ensures c.from-len.ensures
     ∙ ap (λ j. (get_or (model s).entries j no_entry).word) c.from-word.ensures)
 
-pub slice-bounds-result-end-2 : goal.slice-bounds-result-end-2
-slice-bounds-result-end-2 c =
+pub slice_bounds-result-end-2 : goal.slice_bounds-result-end-2
+slice_bounds-result-end-2 c =
     let w = c.args.self.now in
     let T = w.table.now in
     word_inside T w.used w.words c.from-word.result (omega arith) (omega arith)
-    (whole_known (store T w.used w.words) w.whole) c.row-place-row.result c.from-at.result c.from-len.result
-    c.row-place-row.ensures c.from-at.ensures c.from-len.ensures
+    (whole_known (store T w.used w.words) w.whole) c.row_place-row.result c.from-at.result c.from-len.result
+    c.row_place-row.ensures c.from-at.ensures c.from-len.ensures

@@ -1,12 +1,12 @@
-use Rattle.std.proofs.Common.{◌≡◌, ℕ, List, Ok, Err, Result, sym, refl, ap, ◌∙◌, subst, arith}
+use Rattle.std.proofs.Common.{◌≡◌, ℕ, List, Err, Result, sym, refl, ap, ◌∙◌, subst, arith}
 use Rattle.std.proofs.lemmas.Result.{err_from_is_err_and}
 use Rattle.formula.specs.Shown.{disjuncts_of}
 use Rattle.written.specs.declared.fault.LineFault.{LineFault}
 use Rattle.written.specs.declared.page.Page.{Page}
-use Rattle.written.specs.Drafts.{Book, LeftBehind, answered, book, cells_of, entered, lined, page_book}
+use Rattle.written.specs.Drafts.{Book, LeftBehind, answered, book, cells_of, entered, lined}
 use Rattle.written.specs.Kept.{whole_known}
-use Rattle.written.specs.Lines.{line_words, pieces}
-use Rattle.written.specs.Pages.{limit, page_store, store}
+use Rattle.written.specs.Lines.{pieces}
+use Rattle.written.specs.Pages.{page_store, store}
 use Rattle.written.proofs.Judged.{parts_good, formless, faulty, read_well, good_pieces, meant, names_good}
 use Rattle.written.proofs.Numbers.{one_number}
 use Rattle.written.proofs.draft.Draft.line.Goals as goal
@@ -19,31 +19,31 @@ refused lim b line r x f e g h = h ∙ ap (λ s. answered s b) (sym (e ∙ ap Er
 untouched : (p : Page) (r : Result Unit LineFault) (x : LineFault) → r ≡ Err x → LeftBehind p p r
 untouched p r x e = subst (LeftBehind p p) (sym e) (refl, refl, refl)
 
-pub returns-in-err-parts : goal.returns-in-err-parts
-returns-in-err-parts c =
+pub returns-in_err-parts : goal.returns-in_err-parts
+returns-in_err-parts c =
     let d = c.args.self.now
-    in let p = err_from_is_err_and c.from-residual.result c.from-residual.ensures.1
+    in let p = err_from_is_err_and c.from_residual.result c.from_residual.ensures.1
     in record {
-      answer = refused (cells_of d) (book d) c.args.line.now c.from-residual.result p.0 c.in-err-parts.field-0.0 p.1 p.2
-          (formless (cells_of d) (book d) c.args.line.now c.split.result c.in-err-parts.field-0.0 c.split.ensures (sym c.of-line.ensures ∙ c.in-err-parts.was));
-      left = untouched d.page c.from-residual.result p.0 p.1;
+      answer = refused (cells_of d) (book d) c.args.line.now c.from_residual.result p.0 c.in_err-parts.field-0.0 p.1 p.2
+          (formless (cells_of d) (book d) c.args.line.now c.split.result c.in_err-parts.field-0.0 c.split.ensures (sym c.of_line.ensures ∙ c.in_err-parts.was));
+      left = untouched d.page c.from_residual.result p.0 p.1;
       numbers = one_number (store d.page.table.now d.page.used d.page.words) (whole_known (store d.page.table.now d.page.used d.page.words) d.whole);
       cells = refl;
     }
 
-pub returns-in-err-disjuncts : goal.returns-in-err-disjuncts
-returns-in-err-disjuncts c =
+pub returns-in_err-disjuncts : goal.returns-in_err-disjuncts
+returns-in_err-disjuncts c =
     let d = c.args.self.now
     in let line = c.args.line.now
-    in let p = err_from_is_err_and c.from-residual-in-err-disjuncts.result c.from-residual-in-err-disjuncts.ensures.1
-    in let parts = parts_good line c.split.result c.in-ok-parts.parts c.split.ensures (sym c.of-line.ensures ∙ c.in-ok-parts.was)
-    in let e = c.in-err-disjuncts.field-0.0
-    in let m = meant line c.in-ok-parts.parts parts c.meaning.result c.meaning.ensures.means
-    ∙ ap (Rattle.std.specs.Result.result_map_both (disjuncts_of c.in-ok-parts.parts.formula.now) (λ x. x)) c.in-err-disjuncts.was
+    in let p = err_from_is_err_and c.from_residual-in_err-disjuncts.result c.from_residual-in_err-disjuncts.ensures.1
+    in let parts = parts_good line c.split.result c.in_ok-parts.parts c.split.ensures (sym c.of_line.ensures ∙ c.in_ok-parts.was)
+    in let e = c.in_err-disjuncts.field-0.0
+    in let m = meant line c.in_ok-parts.parts parts c.meaning.result c.meaning.ensures.means
+    ∙ ap (Rattle.std.specs.Result.result_map_both (disjuncts_of c.in_ok-parts.parts.formula.now) (λ x. x)) c.in_err-disjuncts.was
     in record {
-      answer = refused (cells_of d) (book d) line c.from-residual-in-err-disjuncts.result p.0 (Rattle.written.specs.Faults.of-formula e) p.1 p.2
+      answer = refused (cells_of d) (book d) line c.from_residual-in_err-disjuncts.result p.0 (Rattle.written.specs.Faults.of_formula e) p.1 p.2
           (faulty (cells_of d) (book d) line parts.0 e m);
-      left = untouched d.page c.from-residual-in-err-disjuncts.result p.0 p.1;
+      left = untouched d.page c.from_residual-in_err-disjuncts.result p.0 p.1;
       numbers = one_number (store d.page.table.now d.page.used d.page.words) (whole_known (store d.page.table.now d.page.used d.page.words) d.whole);
       cells = refl;
     }
@@ -52,12 +52,12 @@ pub enter-requires : goal.enter-requires
 unfolding page_store
 enter-requires c =
     let line = c.args.line.now
-    in let q = c.in-ok-parts.parts
-    in let parts = parts_good line c.split.result q c.split.ensures (sym c.of-line.ensures ∙ c.in-ok-parts.was)
-    in let t = c.in-ok-disjuncts.disjuncts
+    in let q = c.in_ok-parts.parts
+    in let parts = parts_good line c.split.result q c.split.ensures (sym c.of_line.ensures ∙ c.in_ok-parts.was)
+    in let t = c.in_ok-disjuncts.disjuncts
     in let m = meant line q parts c.meaning.result c.meaning.ensures.means
-    ∙ ap (Rattle.std.specs.Result.result_map_both (disjuncts_of q.formula.now) (λ x. x)) c.in-ok-disjuncts.was
-    in let good = names_good line q parts (λ i. omega (arith, c.type-inv.line i)) (disjuncts_of q.formula.now t) m
+    ∙ ap (Rattle.std.specs.Result.result_map_both (disjuncts_of q.formula.now) (λ x. x)) c.in_ok-disjuncts.was
+    in let good = names_good line q parts (λ i. omega (arith, c.type_inv.line i)) (disjuncts_of q.formula.now t) m
     in record {
       roomy = c.args.self.now.roomy;
       few = c.args.self.now.few;
@@ -67,21 +67,21 @@ enter-requires c =
       bytes = λ k i s. (good k i s).1;
     }
 
-pub invariant-of-self : goal.invariant-of-self
+pub invariant_of-self : goal.invariant_of-self
 unfolding page_store
-invariant-of-self c = (c.enter.ensures.roomy, (c.enter.ensures.few, (c.enter.ensures.whole, tt)))
+invariant_of-self c = record { roomy = c.enter.ensures.roomy; few = c.enter.ensures.few; whole = c.enter.ensures.whole }
 
 pub returns : goal.returns
 unfolding page_store
 returns c =
     let d = c.args.self.now
     in let line = c.args.line.now
-    in let q = c.in-ok-parts.parts
-    in let parts = parts_good line c.split.result q c.split.ensures (sym c.of-line.ensures ∙ c.in-ok-parts.was)
-    in let t = c.in-ok-disjuncts.disjuncts
+    in let q = c.in_ok-parts.parts
+    in let parts = parts_good line c.split.result q c.split.ensures (sym c.of_line.ensures ∙ c.in_ok-parts.was)
+    in let t = c.in_ok-disjuncts.disjuncts
     in let ds = disjuncts_of q.formula.now t
     in let m = meant line q parts c.meaning.result c.meaning.ensures.means
-    ∙ ap (Rattle.std.specs.Result.result_map_both (disjuncts_of q.formula.now) (λ x. x)) c.in-ok-disjuncts.was
+    ∙ ap (Rattle.std.specs.Result.result_map_both (disjuncts_of q.formula.now) (λ x. x)) c.in_ok-disjuncts.was
     in record {
       answer = read_well (cells_of d) (book d) line parts.0 ds m
           ∙ ap (λ ws. entered (cells_of d) (book d) (pieces 32 ws) ds) (sym parts.1)

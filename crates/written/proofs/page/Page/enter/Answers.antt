@@ -1,5 +1,4 @@
-use Rattle.std.proofs.Common.{◌≡◌, ℕ, ◌+◌, ◌*◌, ◌<◌, ◌≤◌, Bool, true, false, ◌||◌, List, [], ◌∷◌, ◌++◌, map, length, get_or, take, Ok, Err, sym, refl, ap, ◌∙◌, subst, arith, length-take-le}
-use Rattle.std.specs.List.{AllByRecursion as All}
+use Rattle.std.proofs.Common.{◌≡◌, ℕ, ◌+◌, ◌<◌, ◌≤◌, Bool, true, false, ◌||◌, List, [], length, get_or, Ok, sym, refl, ap, ◌∙◌, subst, arith, length-take-le}
 use Rattle.lexicon.specs.Lexicon.{Disjunct, free, side_of}
 use Rattle.lexicon.specs.declared.side.Side.{Side}
 use Rattle.formula.specs.Shown.{disjuncts_of}
@@ -7,12 +6,11 @@ use Rattle.formula.specs.Tokens.{Name}
 use Rattle.formula.proofs.Kept.{length_disjuncts}
 use Rattle.written.specs.declared.page.Page.{Page}
 use Rattle.written.specs.Costs.{line_cost}
-use Rattle.written.specs.Drafts.{Book, page_book, book_of, with_words, entered}
+use Rattle.written.specs.Drafts.{Book, page_book, with_words}
 use Rattle.written.specs.Kept.{whole_known}
 use Rattle.written.specs.Lines.{pieces, any_known, some_among}
 use Rattle.written.specs.Model.{fresh, mentioned}
-use Rattle.written.specs.Noted.{fresh_of}
-use Rattle.written.specs.Pages.{limit, page_store, store, taken}
+use Rattle.written.specs.Pages.{limit, page_store, taken}
 use Rattle.written.specs.Store.{Store, Whole, names_of, with_line, model, MARK}
 use Rattle.written.proofs.Entered.{is_taken, is_dear, is_many, is_entered, all_at, short_lists}
 use Rattle.written.proofs.Finds.{words_of}
@@ -64,14 +62,14 @@ returns-then-knows c =
       whole = c.requires.whole;
     }
 
-pub returns-then-word-count-self : goal.returns-then-word-count-self
-returns-then-word-count-self c =
+pub returns-then-word_count-self : goal.returns-then-word_count-self
+returns-then-word_count-self c =
     let b = page_book c.args.self.now
     in let ws = pieces 32 c.args.words.now
     in let n = entry_count c.args.self.now
     in record {
       answer = is_many (limit c.args.self.now.table.now) b ws (disjuncts_of c.args.formula.now c.args.disjuncts.now)
-          (known_by b ws false false c.if-knows.ensures c.if-repeats.ensures) (omega (arith, c.word-count.ensures, c.if-word-count-self.true));
+          (known_by b ws false false c.if-knows.ensures c.if-repeats.ensures) (omega (arith, c.word_count.ensures, c.if-word_count-self.true));
       left = (refl, refl, refl);
       len = refl;
       roomy = c.requires.roomy;
@@ -95,7 +93,7 @@ cost-requires c =
     let ds = disjuncts_of c.args.formula.now c.args.disjuncts.now
     in let good = good_fresh ds c.requires.short c.requires.bytes (page_book c.args.self.now).names
     in record {
-      words = (c.requires.good, omega (arith, c.word-count.ensures, c.if-word-count-self.false));
+      words = (c.requires.good, omega (arith, c.word_count.ensures, c.if-word_count-self.false));
       names = λ i. subst (λ (ns : List Name). length (get_or ns i []) ≤ 8) (sym c.unmet-fresh.ensures) (good i).0;
     }
 
@@ -115,8 +113,8 @@ returns-then-cost-room c =
       whole = c.requires.whole;
     }
 
-pub write-line-requires : goal.write-line-requires
-write-line-requires c =
+pub write_line-requires : goal.write_line-requires
+write_line-requires c =
     let ds = disjuncts_of c.args.formula.now c.args.disjuncts.now
     in let good = good_fresh ds c.requires.short c.requires.bytes (page_book c.args.self.now).names
     in record {
@@ -129,7 +127,7 @@ write-line-requires c =
 pub returns : goal.returns
 returns c =
     let p = c.args.self.now
-    in let q = c.write-line.new.self
+    in let q = c.write_line.new.self
     in let b = page_book p
     in let ws = pieces 32 c.args.words.now
     in let t = c.args.disjuncts.now
@@ -137,31 +135,31 @@ returns c =
     in let ds = disjuncts_of xs t
     in let new = known_by b ws false false c.if-knows.ensures c.if-repeats.ensures
     in let spent : taken q.used q.words ≡ (with_words b ws ds).spent =
-    c.write-line.ensures.taken ∙ ap (λ ns. taken p.used p.words + line_cost ws ds ns) c.unmet-fresh.ensures
+    c.write_line.ensures.taken ∙ ap (λ ns. taken p.used p.words + line_cost ws ds ns) c.unmet-fresh.ensures
     in let e : c.cost.result ≡ line_cost ws ds (fresh b.names (mentioned ds)) = c.cost.ensures ∙ ap (line_cost ws ds) c.unmet-fresh.ensures
     in let n = entry_count p
-    in let len = c.write-line.ensures.len
+    in let len = c.write_line.ensures.len
     in let some = pieces_some 32 c.args.words.now
     in let roomy : taken q.used q.words ≤ limit q.table.now = omega (arith, e, c.room.ensures, c.if-cost-room.false)
-    in let few : q.words ≤ 256 = omega (arith, c.write-line.ensures.words, c.word-count.ensures, c.if-word-count-self.false)
-    in let made = c.write-line.ensures.store
+    in let few : q.words ≤ 256 = omega (arith, c.write_line.ensures.words, c.word_count.ensures, c.if-word_count-self.false)
+    in let made = c.write_line.ensures.store
     in let s = page_store p
     in let whole = whole_known s c.requires.whole
     in let few-ds : length ds ≤ 64 = subst (λ (m : ℕ). m ≤ 64) (sym (length_disjuncts xs t)) t.few
-    in let bytes = pieces_bytes 32 c.args.words.now (λ i. omega (arith, c.type-inv.words i))
+    in let bytes = pieces_bytes 32 c.args.words.now (λ i. omega (arith, c.type_inv.words i))
     in let front : length (page_store q).front ≡ q.used = front_length q (omega arith)
     in let room : length (with_line s ws ds).front < MARK =
-    subst (λ (m : ℕ). m < MARK) (sym front ∙ ap (λ (v : Store). length v.front) made) (omega (arith, c.write-line.ensures.words))
+    subst (λ (m : ℕ). m < MARK) (sym front ∙ ap (λ (v : Store). length v.front) made) (omega (arith, c.write_line.ensures.words))
     in let names = good_names ds c.requires.short c.requires.bytes
-    in let entries = stored.entries-after s whole ws ds few-ds (short_lists xs t) names bytes room
-    in let after = stored.names-after s whole ws ds few-ds (short_lists xs t) names bytes room
-    in let kept = stored.names-kept s whole ws ds few-ds (short_lists xs t) names bytes room
+    in let entries = stored.entries_after s whole ws ds few-ds (short_lists xs t) names bytes room
+    in let after = stored.names_after s whole ws ds few-ds (short_lists xs t) names bytes room
+    in let kept = stored.names_kept s whole ws ds few-ds (short_lists xs t) names bytes room
     in record {
-      answer = is_entered (limit p.table.now) b ws ds new (omega (arith, spent)) (omega (arith, c.word-count.ensures, c.if-word-count-self.false, c.requires.few))
+      answer = is_entered (limit p.table.now) b ws ds new (omega (arith, spent)) (omega (arith, c.word_count.ensures, c.if-word_count-self.false, c.requires.few))
           ∙ ap Ok (same_book (with_words b ws ds) (page_book q) (sym entries ∙ ap (λ v. (model v).entries) (sym made)) (sym after ∙ ap names_of (sym made)) (sym spent));
       left = (kept.0, ap (λ v. (model v).names) made ∙ kept.1);
       len = len;
       roomy = roomy;
       few = few;
-      whole = subst (λ v. ∥ Whole v ∥₁) (sym made) ∣ stored.whole-after s whole ws ds few-ds (short_lists xs t) names bytes room ∣₁;
+      whole = subst (λ v. ∥ Whole v ∥₁) (sym made) ∣ stored.whole_after s whole ws ds few-ds (short_lists xs t) names bytes room ∣₁;
     }

@@ -1,10 +1,10 @@
 use Rattle.written.specs.Pages.{page_store}
 use Rattle.written.proofs.page.Page.knows.Goals as goal
 
-pub knows-any-requires : goal.knows-any-requires
+pub knows_any-requires : goal.knows_any-requires
 unfolding page_store
-knows-any-requires c = record { roomy = c.requires.roomy; few = c.requires.few; whole = c.requires.whole }
+knows_any-requires c = record { roomy = c.requires.roomy; few = c.requires.few; whole = c.requires.whole }
 
 pub returns : goal.returns
 unfolding page_store
-returns c = c.knows-any.ensures
+returns c = c.knows_any.ensures

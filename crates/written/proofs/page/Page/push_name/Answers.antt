@@ -10,10 +10,10 @@ returns c =
     let s = page_store c.args.self.now in
     let s1 = page_store c.push.new.self in
     let s2 = page_store c.push-2.new.self in
-    let s3 = page_store c.push-bytes.new.self in
+    let s3 = page_store c.push_bytes.new.self in
     let head = with_cells_more s s1 s2 (MARK ∷ []) (length n ∷ []) c.push.ensures.store c.push-2.ensures.store in
     record {
-      store = with_cells_more s s2 s3 (MARK ∷ length n ∷ []) n head c.push-bytes.ensures.store;
+      store = with_cells_more s s2 s3 (MARK ∷ length n ∷ []) n head c.push_bytes.ensures.store;
       len = omega arith;
       used = omega arith;
       words = omega arith;

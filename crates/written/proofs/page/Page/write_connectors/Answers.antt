@@ -6,8 +6,8 @@ use Rattle.written.specs.Store.{Store, WholeNames, connectors, names_from, numbe
 use Rattle.written.proofs.Added.{Added, added_kept, adding_step, adding_end, connectors_next, connectors_last, connectors_room, length_connectors, length_list}
 use Rattle.written.proofs.page.Page.write_connectors.Goals as goal
 
-pub write-lists-requires : goal.write-lists-requires
-write-lists-requires c =
+pub write_lists-requires : goal.write_lists-requires
+write_lists-requires c =
     let p = c.args.self.now in
     let q = c.loop-k.self in
     let b = c.args.block in
@@ -40,14 +40,14 @@ loop-k-preserved c =
     let m = length_list g xs one.left in
     let n = length_list g xs one.right in
     let s = length-append l r in
-    let e = c.write-lists.ensures in
+    let e = c.write_lists.ensures in
     let written : List ℕ → Store =
     λ T. with_cells (page_store q) (map (number_of (names_from 0 T)) (names_of xs one.left) ++ map (number_of (names_from 0 T)) (names_of xs one.right))
-    in let added : Added q c.write-lists.new.self (l ++ r) =
+    in let added : Added q c.write_lists.new.self (l ++ r) =
     record { store = e.store ∙ ap written same; len = e.len; used = e.used ∙ omega arith; words = e.words }
     in adding_step p q (connectors (numbered F (disjuncts_of xs t))) (connectors (numbered F (drop k (disjuncts_of xs t))))
     (l ++ r) (connectors (numbered F (drop (k + 1) (disjuncts_of xs t)))) inv
-    (connectors_next F xs t k c.index-disjuncts-k.result c.loop-k-test.true) c.write-lists.new.self added
+    (connectors_next F xs t k c.index-disjuncts-k.result c.loop-k-test.true) c.write_lists.new.self added
 
 pub returns : goal.returns
 returns c =

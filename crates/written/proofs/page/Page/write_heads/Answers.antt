@@ -5,8 +5,8 @@ use Rattle.written.specs.Store.{heads, numbered}
 use Rattle.written.proofs.Added.{Added, adding_room, adding_step, adding_end, heads_next, heads_last, length_next, length_heads_of}
 use Rattle.written.proofs.page.Page.write_heads.Goals as goal
 
-pub push-head-requires : goal.push-head-requires
-push-head-requires c =
+pub push_head-requires : goal.push_head-requires
+push_head-requires c =
     let t = c.args.disjuncts.now in
     let k = c.loop-k.k in
     let at = c.loop-k.at in
@@ -30,14 +30,14 @@ loop-k-preserved c =
     let w = c.index-disjuncts-k.result in
     let one = get_or t.items k w in
     let all = heads c.args.from (numbered [] (disjuncts_of [] t)) in
-    let e = c.push-head.ensures in
-    let added : Added c.loop-k.self c.push-head.new.self (one.left.len ∷ one.right.len ∷ at ∷ []) =
+    let e = c.push_head.ensures in
+    let added : Added c.loop-k.self c.push_head.new.self (one.left.len ∷ one.right.len ∷ at ∷ []) =
     record { store = e.store; len = e.len; used = e.used; words = e.words }
     in let m = length_next [] [] t k w c.loop-k-test.true in (
       adding_step c.args.self.now c.loop-k.self all
           (heads at (numbered [] (drop k (disjuncts_of [] t)))) (one.left.len ∷ one.right.len ∷ at ∷ [])
           (heads (at + (one.left.len + one.right.len)) (numbered [] (drop (k + 1) (disjuncts_of [] t)))) c.loop-k.invariant.0
-          (heads_next [] [] t k w c.loop-k-test.true at) c.push-head.new.self added,
+          (heads_next [] [] t k w c.loop-k-test.true at) c.push_head.new.self added,
       omega (arith, c.loop-k.invariant.1),
     )
 

@@ -7,8 +7,8 @@ use Rattle.written.specs.Store.{names_from, WholeNames}
 use Rattle.written.proofs.Added.{Added, added_kept, adding_room, adding_step, adding_end, list_next, list_last, length_list}
 use Rattle.written.proofs.page.Page.write_list.Goals as goal
 
-pub number-among-found-requires : goal.number-among-found-requires
-number-among-found-requires c =
+pub number_among-found-requires : goal.number_among-found-requires
+number_among-found-requires c =
     let inv = c.loop-i.invariant in
     let a = inv.adds in
     let same = added_kept c.args.self.now c.loop-i.self inv.done c.args.block a c.requires.room.1 (omega (arith, c.requires.room.0)) in
@@ -38,12 +38,12 @@ loop-i-preserved c =
     let xs = c.args.formula.now in
     let t = c.args.names.now in
     let i = c.loop-i.i in
-    let v = c.number-among-found.result in
+    let v = c.number_among-found.result in
     let inv = c.loop-i.invariant in
     let a = inv.adds in
     let same = added_kept c.args.self.now c.loop-i.self inv.done b a c.requires.room.1 (omega (arith, c.requires.room.0)) in
     let is : v ≡ g (name_there xs (get_or t.places i 0)) =
-    c.number-among-found.ensures ∙ ap₂ (λ T n. number_of (names_from 0 T) n) same c.name-at.ensures
+    c.number_among-found.ensures ∙ ap₂ (λ T n. number_of (names_from 0 T) n) same c.name_at.ensures
     in let e = c.push.ensures in
     let added : Added c.loop-i.self c.push.new.self (v ∷ []) =
     record { store = e.store; len = e.len; used = e.used; words = e.words }

@@ -11,14 +11,14 @@ loop-from-init c =
     let ws = c.args.words.now in
     worded_start c.args.self.now c.args.block (pieces 32 ws) (pieces_from 32 ws 0) (pieces_first 32 ws)
 
-pub write-word-requires : goal.write-word-requires
-write-word-requires c =
+pub write_word-requires : goal.write_word-requires
+write_word-requires c =
     let ws = c.args.words.now in
     let from = c.loop-from.from in
-    let end = c.piece-end-end.result in
+    let end = c.piece_end-end.result in
     let inv = c.loop-from.invariant in
     let left = worded_room c.args.self.now c.args.block (pieces 32 ws) c.loop-from.self (pieces_from 32 ws from)
-    (pieces_from 32 ws (end + 1)) (between from end ws) inv c.piece-end-end.ensures.cuts c.requires.room.0
+    (pieces_from 32 ws (end + 1)) (between from end ws) inv c.piece_end-end.ensures.cuts c.requires.room.0
     in let u = inv.used in
     record { room = (left, omega (arith, c.requires.room.1)) }
 
@@ -26,11 +26,11 @@ pub loop-from-preserved : goal.loop-from-preserved
 loop-from-preserved c =
     let ws = c.args.words.now in
     let from = c.loop-from.from in
-    let end = c.piece-end-end.result in
-    let e = c.write-word.ensures in
+    let end = c.piece_end-end.result in
+    let e = c.write_word.ensures in
     worded_step c.args.self.now c.args.block (pieces 32 ws) c.loop-from.self (pieces_from 32 ws from)
-    (pieces_from 32 ws (end + 1)) (between from end ws) c.loop-from.invariant c.piece-end-end.ensures.cuts
-    c.write-word.new.self e.store e.len e.used e.words
+    (pieces_from 32 ws (end + 1)) (between from end ws) c.loop-from.invariant c.piece_end-end.ensures.cuts
+    c.write_word.new.self e.store e.len e.used e.words
 
 pub returns : goal.returns
 returns c =

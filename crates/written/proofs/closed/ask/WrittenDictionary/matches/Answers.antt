@@ -3,26 +3,26 @@ use Rattle.written.specs.Matching.{names_match}
 use Rattle.written.proofs.Asked.{names_both, no_left, no_right}
 use Rattle.written.proofs.closed.ask.WrittenDictionary.matches.Goals as goal
 
-pub returns-then-not-is-name : goal.returns-then-not-is-name
-returns-then-not-is-name c =
+pub returns-then-not-is_name : goal.returns-then-not-is_name
+returns-then-not-is_name c =
     let w = c.args.self.now in
     no_right (take w.used w.table.now) c.args.right c.args.left c.from-a.result c.from-a.ensures
-    (sym c.if-not-is-name.ensures.value)
+    (sym c.if-not-is_name.ensures.value)
 
-pub returns-then-not-is-name-2 : goal.returns-then-not-is-name-2
-returns-then-not-is-name-2 c =
+pub returns-then-not-is_name-2 : goal.returns-then-not-is_name-2
+returns-then-not-is_name-2 c =
     let w = c.args.self.now in
     no_left (take w.used w.table.now) c.args.right c.args.left c.from-b.result c.from-b.ensures
-    (sym c.if-not-is-name-2.ensures.value)
+    (sym c.if-not-is_name-2.ensures.value)
 
 pub returns : goal.returns
 returns c =
     let w = c.args.self.now in
-    let p = c.is-name.ensures in
-    let q = c.is-name-2.ensures in
-    let t = c.if-not-is-name.false in
-    let u = c.if-not-is-name-2.false in
-    c.names-match.ensures
+    let p = c.is_name.ensures in
+    let q = c.is_name-2.ensures in
+    let t = c.if-not-is_name.false in
+    let u = c.if-not-is_name-2.false in
+    c.names_match.ensures
     ∙ (ap₂ names_match (c.letters-a.ensures ∙ sym (p.held t)) (c.letters-b.ensures ∙ sym (q.held u))
     ∙ names_both (take w.used w.table.now) c.args.right c.args.left c.from-a.result c.from-b.result
     c.from-a.ensures c.from-b.ensures (sym p.value ∙ t) (sym q.value ∙ u))
