@@ -14,8 +14,8 @@ pub returns-then-before-number : goal.returns-then-before-number
 returns-then-before-number c =
     let xs = c.args.text.now in
     let a = c.loop-from.from in
-    let e = c.piece-end-end.result in
-    let p = c.piece-end-end.ensures in
+    let e = c.piece_end-end.result in
+    let p = c.piece_end-end.ensures in
     let s = lines_step xs a e c.loop-from-test.true p.within.0 p.within.1 p.clear p.stops in
     line_here c.args.number c.loop-from.before (lines (drop a xs)) (between a e xs) (lines (drop (e + 1) xs)) s c.if-before-number.true
     ∙ c.loop-from.invariant.2
@@ -24,8 +24,8 @@ pub loop-from-preserved : goal.loop-from-preserved
 loop-from-preserved c =
     let xs = c.args.text.now in
     let a = c.loop-from.from in
-    let e = c.piece-end-end.result in
-    let p = c.piece-end-end.ensures in
+    let e = c.piece_end-end.result in
+    let p = c.piece_end-end.ensures in
     let s = lines_step xs a e c.loop-from-test.true p.within.0 p.within.1 p.clear p.stops in
     let (few, below, same) = c.loop-from.invariant in (
       omega arith,

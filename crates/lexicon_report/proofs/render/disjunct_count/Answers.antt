@@ -5,8 +5,8 @@ use Rattle.written.specs.Meaning.{written_lexicon}
 use Rattle.lexicon_report.proofs.Counted.{no_words, word_more}
 use Rattle.lexicon_report.proofs.render.disjunct_count.Goals as goal
 
-pub overflow-cast-word : goal.overflow-cast-word
-overflow-cast-word c =
+pub overflow_cast-word : goal.overflow_cast-word
+overflow_cast-word c =
     let d = c.args.dictionary.now in
     let few = few_words d.table.now d.used d.words d.few in
     let e : c.words-word-end.result ≡ (written_lexicon d).words = c.words-word-end.ensures in
@@ -26,8 +26,8 @@ loop-word-preserved c =
     let (small, sum) = c.loop-word.invariant in
     (omega arith, omega arith)
 
-pub overflow-add-count : goal.overflow-add-count
-overflow-add-count c =
+pub overflow_add-count : goal.overflow_add-count
+overflow_add-count c =
     let d = c.args.dictionary.now in
     let w = c.loop-word.word in
     let few = few_disjuncts d.table.now d.used d.words d.whole w in
