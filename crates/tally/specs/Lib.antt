@@ -8,3 +8,4 @@ pub mod Sizes
 pub mod Same
 pub mod Stops
 pub mod Figures
+pub mod Kept

@@ -1,8 +1,6 @@
 ghost use Rattle.std.specs.Prelude.{◌≡◌};
 ghost use Rattle.tally.specs.Fewest.{fewest, number_of, fewest_tally};
-ghost use Rattle.std.proofs.Common.{arith};
-ghost use Rattle.tally.specs.declared.fewest.Fewest.TheVariants.{Nothing};
-ghost use Rattle.tally.specs.Sizes.{same_fewest, size_small, size_smaller, size_sum};
+ghost use Rattle.tally.specs.Kept.{fewest_laws};
 
 use super::{Fewest, LIMIT, NullLinks};
 use crate::{Choosing, Tally};
@@ -34,16 +32,7 @@ impl Fewest {
 impl Tally for Fewest {
     ghost semiring = { fewest_tally };
 
-    ghost laws = { record {
-      either_comm = λ x y. same_fewest _ _ (simp size_smaller (omega arith));
-      either_assoc = λ x y z. same_fewest _ _ (simp size_smaller (omega arith));
-      either_nothing = λ x. same_fewest _ _ (omega (arith, size_smaller x Nothing, size_small x));
-      both_comm = λ x y. same_fewest _ _ (simp size_sum (omega arith));
-      both_assoc = λ x y z. same_fewest _ _ (simp size_sum (omega arith));
-      both_single = λ x. same_fewest _ _ (omega (arith, size_sum x (fewest 0), size_small x));
-      both_nothing = λ x. same_fewest _ _ (simp size_sum (omega arith));
-      both_either = λ x y z. same_fewest _ _ (simp (size_smaller, size_sum) (omega arith));
-    } };
+    ghost laws = { fewest_laws };
 
     fn nothing() -> Fewest {
         Fewest::Nothing

@@ -1,12 +1,6 @@
 ghost use Rattle.std.specs.Prelude.{◌≡◌};
 ghost use Rattle.tally.specs.FewestWays.{fewest_ways, least_of, fewest_ways_tally};
-ghost use Rattle.std.proofs.Common.{mul_comm, mul-one, arith};
-ghost use Rattle.std.proofs.lemmas.Bool.Decides.{nat_tests};
-ghost use Rattle.tally.specs.Numbers.{most};
-ghost use Rattle.tally.specs.declared.fewest_ways.FewestWays.TheVariants.{Nothing};
-ghost use Rattle.tally.specs.Stops.{mul_around, mul_over};
-ghost use Rattle.tally.specs.Figures;
-ghost use Rattle.tally.specs.Figures.{bound, same_figures, size_fewer, count_fewer, size_together, count_together};
+ghost use Rattle.tally.specs.Kept.{fewest_ways_laws};
 
 use super::{FewestWays, Least};
 use crate::Tally;
@@ -39,28 +33,7 @@ impl FewestWays {
 impl Tally for FewestWays {
     ghost semiring = { fewest_ways_tally };
 
-    ghost laws = { record {
-      either_comm = λ x y. same_figures _ _ (simp size_fewer (omega arith)) (simp count_fewer (Prim.grind (arith, nat_tests)));
-      either_assoc = λ x y z.
-          same_figures _ _ (simp size_fewer (omega arith)) (simp (size_fewer, count_fewer) (Prim.grind (arith, nat_tests)));
-      either_nothing = λ x.
-          let b = bound x in
-          same_figures _ _ (omega (arith, size_fewer x Nothing)) (simp count_fewer (Prim.grind (arith, nat_tests)));
-      both_comm = λ x y.
-          let e = mul_comm (Figures.count x) (Figures.count y) in
-          same_figures _ _ (simp size_together (omega arith)) (simp count_together (Prim.grind (arith, nat_tests)));
-      both_assoc = λ x y z.
-          let e = mul_around most (Figures.count x) (Figures.count y) (Figures.count z) in
-          same_figures _ _ (simp size_together (omega arith)) (simp (size_together, count_together) (Prim.grind (arith, nat_tests)));
-      both_single = λ x.
-          let b = bound x in let e = mul-one (Figures.count x) in
-          same_figures _ _ (omega (arith, size_together x (fewest_ways 0 1))) (simp count_together (Prim.grind (arith, nat_tests)));
-      both_nothing = λ x. same_figures _ _ (omega (arith, size_together x Nothing)) (simp count_together (Prim.grind (arith, nat_tests)));
-      both_either = λ x y z.
-          let e = mul_over most (Figures.count x) (Figures.count y) (Figures.count z) in
-          same_figures _ _ (simp (size_together, size_fewer) (omega arith))
-          (simp (size_together, size_fewer, count_together, count_fewer) (Prim.grind (arith, nat_tests)));
-    } };
+    ghost laws = { fewest_ways_laws };
 
     fn nothing() -> FewestWays {
         FewestWays::Nothing

@@ -1,6 +1,6 @@
 ghost use Rattle.std.specs.Prelude.{◌≡◌};
 ghost use Rattle.tally.specs.Legal.{legal, is_yes, legal_tally};
-ghost use Rattle.std.proofs.Common.{rules};
+ghost use Rattle.tally.specs.Kept.{legal_laws};
 
 use super::Legal;
 use crate::{Choosing, Tally};
@@ -28,7 +28,7 @@ impl Legal {
 impl Tally for Legal {
     ghost semiring = { legal_tally };
 
-    ghost laws = { Prim.search rules };
+    ghost laws = { legal_laws };
 
     fn nothing() -> Legal {
         Legal::No

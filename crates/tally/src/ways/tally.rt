@@ -1,9 +1,6 @@
 ghost use Rattle.std.specs.Prelude.{◌≡◌};
 ghost use Rattle.tally.specs.Ways.{ways, ways_tally};
-ghost use Rattle.std.proofs.Common.{mul_comm, mul-one, mul-zero, arith};
-ghost use Rattle.tally.specs.Numbers.{most};
-ghost use Rattle.tally.specs.Stops.{mul_around, mul_over};
-ghost use Rattle.tally.specs.Same.{same_ways};
+ghost use Rattle.tally.specs.Kept.{ways_laws};
 
 use super::Ways;
 use crate::Tally;
@@ -28,16 +25,7 @@ impl Ways {
 impl Tally for Ways {
     ghost semiring = { ways_tally };
 
-    ghost laws = { record {
-      either_comm = λ x y. same_ways _ _ (omega arith);
-      either_assoc = λ x y z. same_ways _ _ (omega arith);
-      either_nothing = λ x. same_ways _ _ (let h = x.fits in omega arith);
-      both_comm = λ x y. same_ways _ _ (omega (arith, mul_comm x.count y.count));
-      both_assoc = λ x y z. same_ways _ _ (mul_around most x.count y.count z.count);
-      both_single = λ x. same_ways _ _ (let h = x.fits in omega (arith, mul-one x.count));
-      both_nothing = λ x. same_ways _ _ (omega (arith, mul-zero x.count));
-      both_either = λ x y z. same_ways _ _ (mul_over most x.count y.count z.count);
-    } };
+    ghost laws = { ways_laws };
 
     fn nothing() -> Ways {
         Ways::of(0)
