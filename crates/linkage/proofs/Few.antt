@@ -1,6 +1,6 @@
 -- A sentence of n positions has at most 2 n - 3 links, and none where n is 1: a piece with m places has at most 2 m, and one
 -- fewer where it has a place and R asks for nothing.
-use Rattle.std.proofs.Common.{◌≡◌, ℕ, zero, suc, ◌+◌, ◌-◌, ◌*◌, ◌<◌, ◌≤◌, Bool, true, false, cond, eqb, ◌⊎◌, List, [], ◌∷◌, ◌++◌, map, length, sym, refl, ap, ◌∙◌, subst, inl, inr, arith, length-append}
+use Rattle.std.proofs.Common.{◌≡◌, ℕ, zero, suc, ◌+◌, ◌-◌, ◌*◌, ◌<◌, ◌≤◌, eqb, ◌⊎◌, List, [], ◌∷◌, ◌++◌, map, length, sym, refl, ap, ◌∙◌, subst, inl, inr, arith, length-append}
 use mathlib.Core.Option.{none, some}
 use Rattle.std.proofs.lemmas.Bool.{cond_both}
 use Rattle.linkage.specs.Inside.{Waiting}

@@ -1,8 +1,8 @@
 -- When the links of some positions fit: each position has as many to each side as it asks for, none cross, and the connectors
 -- of each match. Shown here is how that splits at a position over which no link passes, and what a link between the two ends
 -- of a region adds to it. Nothing is said of sentences but which connectors match.
-use Rattle.std.proofs.Common.{◌≡◌, ℕ, zero, suc, ◌<◌, ◌≤◌, Bool, true, false, cond, ◌||◌, eqb, ◌⊎◌, ◌↔◌, List, [], ◌∷◌, ◌++◌, length, get_or, sym, refl, ap, ◌∙◌, subst, ap₂, inl, inr, append_assoc, append-nil, arith}
-use Rattle.std.proofs.lemmas.Bool.{cond-false, cond-true, eq-eqb, ne_eqb}
+use Rattle.std.proofs.Common.{◌≡◌, ℕ, suc, ◌<◌, ◌≤◌, Bool, true, false, cond, ◌||◌, eqb, ◌⊎◌, ◌↔◌, List, [], ◌∷◌, ◌++◌, length, get_or, sym, refl, ap, ◌∙◌, subst, ap₂, inl, inr, append_assoc, append-nil, arith}
+use Rattle.std.proofs.lemmas.Bool.{cond-true, eq-eqb, ne_eqb}
 use Rattle.linkage.specs.Lists.{◌∈◌, here, there, has, place_of}
 use Rattle.linkage.proofs.Members.{eqb_cases, has_in, has_not, in_both, in_cases, in_cons, in_has, in_left, in_none, in_one, in_right, in_split}
 use Rattle.linkage.proofs.Ranges.{snoc_cases}

@@ -3,9 +3,9 @@
 -- regions are glued, and grows by one where a part begins. At the end, what labels tell is the equivalence that links generate.
 use Rattle.std.proofs.Common.{◌≡◌, ℕ, zero, suc, ◌+◌, ◌-◌, ◌<◌, ◌≤◌, min, max, Bool, true, false, cond, not, ◌&&◌, eqb, ltb, leb, ◌⊎◌, ◌↔◌, List, [], ◌∷◌, ◌++◌, length, sym, refl, ap, ◌∙◌, subst, ap₂, inl, inr, arith, length-append}
 use Rattle.std.proofs.lemmas.Bool.{and_from, and_left, and_right, both_ways, cases_Bool, cases_eq, cases_order, cond-false, cond-true, eq-eqb, le-leb, le-ltb, lt-leb, lt-ltb, ne_eqb, true≢false}
-use Rattle.linkage.specs.Lists.{◌∈◌, here, there, between, every, filter, range}
+use Rattle.linkage.specs.Lists.{◌∈◌, here, there, between, filter, range}
 use Rattle.linkage.specs.Parts.{Heads, Joined, alone, chained, heads, label, leads, link, turned}
-use Rattle.linkage.proofs.Members.{distinct_filter, eqb_cases, every_in, every_of, filter_++, filter_cong, in_both, in_cons, in_filter, in_left, in_none, in_right, not_in, not_of, of_filter, same_test}
+use Rattle.linkage.proofs.Members.{distinct_filter, eqb_cases, every_in, every_of, filter_++, filter_cong, in_both, in_cons, in_filter, in_left, in_right, not_in, not_of, of_filter, same_test}
 use Rattle.linkage.proofs.Ranges.{between_split, distinct_range, in_range, of_between, of_range}
 
 abbrev pub Wire : Type 0

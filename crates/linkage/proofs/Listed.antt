@@ -1,9 +1,9 @@
 -- `linkages` lists exactly the partial linkages of a sentence, each once.
-use Rattle.std.proofs.Common.{◌≡◌, ℕ, zero, suc, ◌+◌, ◌<◌, ◌≤◌, ◌⊎◌, ◌↔◌, List, [], ◌∷◌, ◌++◌, map, length, get_or, sym, refl, ap, ◌∙◌, subst, subst₂, inl, inr, zero-add, arith}
+use Rattle.std.proofs.Common.{◌≡◌, ℕ, zero, suc, ◌+◌, ◌<◌, ◌⊎◌, ◌↔◌, List, [], ◌∷◌, map, length, sym, refl, ap, ◌∙◌, subst, subst₂, inl, inr, zero-add, arith}
 use mathlib.Core.List.{head-eq_of_cons-eq, tail-eq_of_cons-eq}
 use Rattle.std.proofs.lemmas.Bool.{cases_eq}
 use Rattle.linkage.specs.Lists.{◌∈◌, here, there, Distinct, concatMap, range, sublists}
-use Rattle.linkage.specs.Linkages.{Linkage, Partial, Place, Rising, Rules, after, candidates, choice_at, keeps_rules, linkages, unlinked}
+use Rattle.linkage.specs.Linkages.{Linkage, Partial, Place, Rising, Rules, after, candidates, choice_at, keeps_rules, linkages}
 use Rattle.linkage.specs.Sentences.{Choice, Sentence, choices, size}
 use Rattle.linkage.proofs.Members.{distinct_++, distinct_concatMap, distinct_filter, distinct_map, in_cases, in_concatMap, in_filter, in_left, in_map, in_none, in_right, in_split, of_concatMap, of_filter, of_map}
 use Rattle.linkage.proofs.Once.{choices_distinct}

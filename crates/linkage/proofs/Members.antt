@@ -1,6 +1,6 @@
 -- Membership: what stands in a list that is joined, mapped, gathered or filtered, when nothing stands twice there, and what
 -- tests over a list say.
-use Rattle.std.proofs.Common.{◌≡◌, ℕ, suc, ◌<◌, Bool, true, false, cond, not, ◌&&◌, ◌||◌, eqb, ◌⊎◌, List, [], ◌∷◌, ◌++◌, map, length, sym, refl, ap, ◌∙◌, subst, ap₂, inl, inr, arith}
+use Rattle.std.proofs.Common.{◌≡◌, ℕ, suc, ◌<◌, Bool, true, false, cond, not, eqb, ◌⊎◌, List, [], ◌∷◌, ◌++◌, map, length, sym, refl, ap, ◌∙◌, subst, ap₂, inl, inr, arith}
 use Rattle.std.proofs.lemmas.Bool.{and_from, and_parts, both_ways, cases_Bool, cond_both, cond-true, eq-eqb, eqb-false, eqb-true, false≢true, not_from_false, not-true, or_cases, or_left, or_right}
 use Rattle.linkage.specs.Lists.{◌∈◌, here, there, Distinct, concatMap, every, filter, has, some_of}
 

@@ -1,10 +1,10 @@
 -- No piece is made twice.
-use Rattle.std.proofs.Common.{◌≡◌, ℕ, zero, suc, ◌+◌, ◌-◌, ◌<◌, ◌≤◌, Bool, true, false, cond, not, eqb, ◌⊎◌, List, [], ◌∷◌, ◌++◌, map, length, sym, refl, ap, ◌∙◌, subst, ap₂, inl, inr, add-zero, add-suc, suc-add, arith}
+use Rattle.std.proofs.Common.{◌≡◌, ℕ, zero, suc, ◌+◌, ◌-◌, ◌<◌, ◌≤◌, cond, not, eqb, List, [], ◌∷◌, ◌++◌, map, length, sym, refl, ap, ◌∙◌, subst, ap₂, add-zero, add-suc, suc-add, arith}
 use mathlib.Core.List.{append_cancel_right, head-eq_of_cons-eq, tail-eq_of_cons-eq}
 use mathlib.Core.Option.{none, some}
 use Rattle.std.proofs.lemmas.Bool.{cond_both}
 use Rattle.linkage.specs.Inside.{Waiting}
-use Rattle.linkage.specs.Lists.{◌∈◌, here, Distinct, back, between, concatMap, empty, filter, has, range}
+use Rattle.linkage.specs.Lists.{◌∈◌, here, Distinct, back, between, concatMap, empty, has, range}
 use Rattle.linkage.specs.Linkages.{Linkage, Place}
 use Rattle.linkage.specs.Sentences.{Choice, Sentence, bare, choices, lefts, position, rights, takes, unstruck}
 use Rattle.linkage.proofs.Members.{distinct_++, distinct_concatMap, distinct_filter, distinct_map, has_not, in_has, in_none, in_right, of_concatMap, of_map}

@@ -3,13 +3,13 @@ use Rattle.std.proofs.Common.{◌≡◌, ℕ, zero, suc, Bool, true, false, cond
 use mathlib.Core.Option.{none, some}
 use Rattle.std.proofs.lemmas.Bool.{eqb-true}
 use Rattle.tally.specs.Semiring.{Semiring, Laws}
-use Rattle.linkage.specs.Inside.{Waiting, edge, factor, inner, inside, linked, opening, region, splits, to_left, when}
+use Rattle.linkage.specs.Inside.{Waiting, edge, factor, inner, inside, linked, opening, splits, to_left, when}
 use Rattle.linkage.specs.Lists.{◌∈◌, here, back, between, concatMap, empty}
 use Rattle.linkage.specs.Linkages.{Linkage}
 use Rattle.linkage.specs.Parts.{is_bare}
 use Rattle.linkage.specs.Sentences.{Choice, Sentence, bare, choices, lefts, rights, takes}
 use Rattle.linkage.specs.Sums.{sum}
-use Rattle.linkage.proofs.Members.{in_none, in_right, of_map}
+use Rattle.linkage.proofs.Members.{in_right, of_map}
 use Rattle.linkage.proofs.Regions.{Open, Piece, Valid, glue, link_end, put}
 use Rattle.linkage.proofs.Pieces.{closed_pieces, edge_pieces, gather, inner_pieces, keep, left_at, left_pieces, linked_pieces, of_linked, opening_pieces, opening_with, pairs, pieces, right_at}
 use Rattle.linkage.proofs.Sound.{closed_sound, linked_sound, near_sound, sound}

@@ -2,13 +2,13 @@
 -- pieces are glued.
 use Rattle.std.proofs.Common.{◌≡◌, ℕ, zero, suc, ◌<◌, Bool, true, false, cond, eqb, List, [], ◌∷◌, ◌++◌, map, sym, refl, ap, ◌∙◌, subst}
 use mathlib.Core.Bool.{false≢true}
-use mathlib.Core.Option.{Option, none, some}
+use mathlib.Core.Option.{none, some}
 use Rattle.linkage.specs.Inside.{Waiting}
 use Rattle.linkage.specs.Lists.{◌∈◌, Distinct, back, between, concatMap, empty}
 use Rattle.linkage.specs.Linkages.{Linkage}
 use Rattle.linkage.specs.Sentences.{Choice, Sentence, choices, lefts, rights}
 use Rattle.linkage.proofs.Members.{distinct_concatMap, distinct_map, in_concatMap, in_map, in_none, of_concatMap, of_map}
-use Rattle.linkage.proofs.Ranges.{distinct_between, in_between, of_between}
+use Rattle.linkage.proofs.Ranges.{in_between, of_between}
 use Rattle.linkage.proofs.Regions.{Piece, glue, link_end, put}
 
 -- A list where a test says yes, and no list elsewhere.

@@ -1,8 +1,8 @@
 -- A piece of a linkage: what lies between two positions L and R, with the connectors of L and R that wait for it. Shown is how
 -- valid pieces are glued at a position W between, how they come apart there, and what a link between L and R changes.
 use Rattle.std.proofs.Common.{◌≡◌, ℕ, suc, ◌+◌, ◌<◌, ◌≤◌, true, List, [], ◌∷◌, ◌++◌, length, sym, refl, ap, ◌∙◌, subst, subst₂, append_assoc, arith, length-append}
-use Rattle.linkage.specs.Lists.{◌∈◌, here, there}
-use Rattle.linkage.specs.Linkages.{Linkage, Place, Rising}
+use Rattle.linkage.specs.Lists.{◌∈◌, here}
+use Rattle.linkage.specs.Linkages.{Linkage, Rising}
 use Rattle.linkage.specs.Sentences.{Choice, Sentence, choices, lefts, rights}
 use Rattle.linkage.proofs.Members.{in_both, in_cons, in_none, in_one, in_right, nil_of}
 use Rattle.linkage.proofs.Fits.{Fits, Need, Reach, Side, Span, ends, glue_fits, in_into, into, left_fits, link_fits, right_fits, side, unlink_fits}

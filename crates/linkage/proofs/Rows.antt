@@ -1,6 +1,6 @@
 -- Places that are numbered from a position on: what holds of each, what each gives, and how both split where places are joined.
 -- Then rows that rise.
-use Rattle.std.proofs.Common.{◌≡◌, ℕ, zero, suc, ◌+◌, ◌<◌, ◌≤◌, ◌⊎◌, List, [], ◌∷◌, ◌++◌, length, get_or, sym, refl, ap, ◌∙◌, subst, inl, inr, add-zero, add-suc, suc-add, zero-add, arith}
+use Rattle.std.proofs.Common.{◌≡◌, ℕ, zero, suc, ◌+◌, ◌<◌, ◌≤◌, ◌⊎◌, List, [], ◌∷◌, ◌++◌, length, get_or, sym, refl, ap, ◌∙◌, subst, inl, inr, add-zero, add-suc, suc-add, arith}
 use Rattle.linkage.specs.Lists.{◌∈◌, here, there, Distinct}
 use Rattle.linkage.specs.Linkages.{Linkage, Place, Rising, unlinked}
 use Rattle.linkage.specs.Sentences.{Sentence, choices, lefts, rights}

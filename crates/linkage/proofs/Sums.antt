@@ -1,5 +1,5 @@
 -- Sums over lists, in any tally that keeps the laws.
-use Rattle.std.proofs.Common.{◌≡◌, ℕ, zero, suc, ◌+◌, Bool, true, false, cond, ◌⊎◌, List, [], ◌∷◌, ◌++◌, map, sym, refl, ap, ◌∙◌, subst, ap₂, inl, inr, suc-add, zero-add}
+use Rattle.std.proofs.Common.{◌≡◌, ℕ, zero, suc, ◌+◌, ◌⊎◌, List, [], ◌∷◌, ◌++◌, map, sym, refl, ap, ◌∙◌, subst, ap₂, inl, inr, suc-add, zero-add}
 use Rattle.tally.specs.Semiring.{Semiring, Laws}
 use Rattle.linkage.specs.Lists.{◌∈◌, here, there, Distinct, concatMap}
 use Rattle.linkage.specs.Sums.{power, sum}

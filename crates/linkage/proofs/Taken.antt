@@ -1,10 +1,10 @@
 -- The disjuncts that a partial linkage takes are kept by trimming, since each link of a taken disjunct ends at a taken one.
-use Rattle.std.proofs.Common.{◌≡◌, ℕ, zero, suc, ◌<◌, true, ◌&&◌, eqb, ltb, ◌⊎◌, List, [], ◌∷◌, map, length, get_or, sym, refl, subst, inl, inr, arith}
+use Rattle.std.proofs.Common.{◌≡◌, ℕ, suc, ◌<◌, true, ◌&&◌, eqb, ltb, ◌⊎◌, List, [], ◌∷◌, map, length, get_or, sym, refl, subst, inl, inr, arith}
 use Rattle.lexicon.specs.Lexicon.{Disjunct, free}
 use Rattle.std.proofs.lemmas.Bool.{and_from, cond_both, eq-eqb, lt-ltb, ne_eqb}
 use Rattle.linkage.specs.Lists.{◌∈◌, here, there, Distinct, falling, has, place_of, some_of}
 use Rattle.linkage.specs.Sentences.{Choice, Position, Sentence, asked, bare, choices, position, size, takes, unstruck}
-use Rattle.linkage.specs.Linkages.{Linkage, Partial, Rising, after, before, choice_at, left_end, left_list, right_end, right_list}
+use Rattle.linkage.specs.Linkages.{Linkage, Partial, after, before, choice_at, left_end, left_list, right_end, right_list}
 use Rattle.linkage.specs.Trims.{Used, all_used, kept, left_of, met, met_left, met_right, right_of, used}
 use Rattle.linkage.proofs.Members.{distinct_filter, every_of, has_in, in_cases, in_concatMap, in_filter, in_has, in_map, in_none, long_since, of_filter, of_map, some_in}
 use Rattle.linkage.proofs.Ranges.{distinct_falling, in_falling, in_range, of_falling}

@@ -1,16 +1,16 @@
 -- The rules, the tests for them and the fitting of right sides and needs say the same of a linkage.
-use Rattle.std.proofs.Common.{◌≡◌, ℕ, zero, suc, ◌+◌, ◌<◌, ◌≤◌, Bool, true, false, cond, not, ◌&&◌, eqb, ltb, ◌⊎◌, ◌↔◌, List, [], ◌∷◌, ◌++◌, length, get_or, sym, refl, ap, ◌∙◌, subst, ap₂, subst₂, inl, inr, append-nil, add-zero, zero-add, arith}
+use Rattle.std.proofs.Common.{◌≡◌, ℕ, zero, suc, ◌+◌, ◌<◌, Bool, true, cond, not, ◌&&◌, eqb, ltb, List, [], ◌∷◌, ◌++◌, length, get_or, sym, refl, ap, ◌∙◌, subst, ap₂, subst₂, inl, inr, add-zero, zero-add, arith}
 use lib.ListN.{get_or-eq_default}
 use Rattle.std.proofs.lemmas.Bool.{and_from, and_parts, cases_lt, eq-eqb, eqb-true, lt-ltb, ltb-true}
-use Rattle.linkage.specs.Lists.{◌∈◌, here, there, every, falling, filter, has, place_of, range}
-use Rattle.linkage.specs.Linkages.{Linkage, Place, Rising, Rules, after, before, choice_at, crosses, full, keeps_rules, left_end, left_list, links, links_from, matching, right_end, right_list, uncrossed, unlinked}
+use Rattle.linkage.specs.Lists.{◌∈◌, every, falling, filter, has, place_of, range}
+use Rattle.linkage.specs.Linkages.{Linkage, Place, Rising, Rules, after, before, choice_at, crosses, full, keeps_rules, left_end, left_list, links, matching, right_end, right_list, uncrossed, unlinked}
 use Rattle.linkage.specs.Sentences.{Sentence, lefts, rights, size}
 use Rattle.linkage.proofs.Members.{every_in, every_of, filter_++, in_none, not_in, not_of}
 use Rattle.linkage.proofs.Ranges.{in_range, of_range}
 use Rattle.linkage.proofs.Fits.{Agree, Apart, Fits, Need, Side, into, side}
 use Rattle.linkage.proofs.Joins.{Wire}
 use Rattle.linkage.proofs.Rows.{Rows, behind, each_at, in_along, needs, of_along, outs, rising_in}
-use Rattle.linkage.proofs.Weights.{Linking, in_links, of_links}
+use Rattle.linkage.proofs.Weights.{in_links, of_links}
 
 crosses_of : (e f : Wire) → crosses e f ≡ true → (e.0 < f.0) × (f.0 < e.1) × (e.1 < f.1)
 crosses_of e f t =

@@ -1,17 +1,17 @@
 -- The weight of a piece splits as pieces do: a gap for each part between its ends that holds together with neither, and a bare
 -- for each bare word.
-use Rattle.std.proofs.Common.{◌≡◌, ℕ, zero, suc, ◌+◌, ◌-◌, ◌<◌, ◌≤◌, Bool, true, false, cond, ◌⊎◌, List, [], ◌∷◌, ◌++◌, map, length, get_or, sym, refl, ap, ◌∙◌, subst, ap₂, inl, inr, append_assoc, add-zero, zero-add, arith, length-append}
+use Rattle.std.proofs.Common.{◌≡◌, ℕ, zero, suc, ◌+◌, ◌-◌, ◌<◌, ◌≤◌, false, cond, ◌⊎◌, List, [], ◌∷◌, ◌++◌, map, length, get_or, sym, refl, ap, ◌∙◌, subst, ap₂, inl, inr, append_assoc, add-zero, arith, length-append}
 use Rattle.tally.specs.Semiring.{Semiring, Laws}
 use Rattle.linkage.specs.Inside.{factor}
-use Rattle.linkage.specs.Lists.{◌∈◌, here, there, between, filter, range}
+use Rattle.linkage.specs.Lists.{◌∈◌, here, there, filter, range}
 use Rattle.linkage.specs.Linkages.{Linkage, Place, Rising, links_from, unlinked}
 use Rattle.linkage.specs.Parts.{bare_words, is_bare, leads}
 use Rattle.linkage.specs.Sentences.{Choice, Sentence, bare, rights, takes}
 use Rattle.linkage.specs.Sums.{power}
 use Rattle.linkage.proofs.Members.{filter_++, in_both, in_left, in_map, in_none, in_one, in_right, in_split, of_map}
-use Rattle.linkage.proofs.Fits.{Side, side}
-use Rattle.linkage.proofs.Rows.{Each, Rows, behind, each_at, in_along, outs, rising_in}
-use Rattle.linkage.proofs.Regions.{Open, Piece, Valid, glue, link_end, none_to, put, sides}
+use Rattle.linkage.proofs.Fits.{side}
+use Rattle.linkage.proofs.Rows.{Rows, behind, each_at, in_along, rising_in}
+use Rattle.linkage.proofs.Regions.{Piece, Valid, glue, link_end, none_to, put}
 use Rattle.linkage.proofs.PieceSums.{Splits}
 use Rattle.linkage.proofs.Joins.{Same, Strictly, Wire, Within, loose, loose_gap, loose_glue, loose_same, same_wire}
 use Rattle.linkage.proofs.Sums.{both_swap, power_+, single_both}

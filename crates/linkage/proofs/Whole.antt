@@ -1,20 +1,20 @@
 -- The inside recursion gives, for a whole sentence, the sum over all its partial linkages; and so does every table that meets
 -- the region equations.
-use Rattle.std.proofs.Common.{◌≡◌, ℕ, zero, suc, ◌+◌, ◌-◌, ◌<◌, ◌≤◌, Bool, true, false, cond, eqb, ◌⊎◌, List, [], ◌∷◌, ◌++◌, map, length, sym, refl, ap, ◌∙◌, subst, ap₂, inl, inr, arith}
+use Rattle.std.proofs.Common.{◌≡◌, ℕ, zero, suc, ◌+◌, ◌<◌, ◌≤◌, Bool, true, false, cond, eqb, ◌⊎◌, List, [], ◌∷◌, length, sym, refl, ap, ◌∙◌, subst, ap₂, inl, inr, arith}
 use mathlib.Core.Option.{none, some}
 use Rattle.std.proofs.lemmas.Bool.{eqb-false}
 use Rattle.tally.specs.Semiring.{Semiring, Laws}
-use Rattle.linkage.specs.Inside.{Solves, Table, Waiting, edge, factor, inner, inside, linked, opening, region, splits, to_left, top, when, whole}
+use Rattle.linkage.specs.Inside.{Solves, Table, Waiting, edge, factor, inner, inside, linked, region, splits, to_left, top, when, whole}
 use Rattle.linkage.specs.Lists.{◌∈◌, here, there, back, between, empty}
-use Rattle.linkage.specs.Linkages.{Linkage, Partial, after, linkages, links}
+use Rattle.linkage.specs.Linkages.{Linkage, Partial, linkages}
 use Rattle.linkage.specs.Parts.{bare_words, heads, null_links}
 use Rattle.linkage.specs.Sentences.{Choice, Sentence, choices, lefts, rights, size}
-use Rattle.linkage.specs.Sums.{power, sum, total, weight}
-use Rattle.linkage.proofs.Members.{cons_of, in_both, in_concatMap, in_cons, in_left, in_map, in_none, in_one, nil_of}
+use Rattle.linkage.specs.Sums.{power, total, weight}
+use Rattle.linkage.proofs.Members.{cons_of, in_both, in_concatMap, in_cons, in_left, in_map, in_one, nil_of}
 use Rattle.linkage.proofs.Ranges.{of_between}
-use Rattle.linkage.proofs.Fits.{Agree, Fits, Need, Side, into, into_none, side}
-use Rattle.linkage.proofs.Rows.{Rows, needs, outs, outs_span, rising_below, rising_in, rising_up, rows_below, rows_up}
-use Rattle.linkage.proofs.Regions.{Open, Piece, Valid, none_to, put, sides, wants}
+use Rattle.linkage.proofs.Fits.{Fits, Need, Side, into_none}
+use Rattle.linkage.proofs.Rows.{Rows, needs, outs_span, rising_in, rising_up, rows_below, rows_up}
+use Rattle.linkage.proofs.Regions.{Open, Piece, none_to, put, sides, wants}
 use Rattle.linkage.proofs.Pieces.{in_keep, of_opening, opening_pieces, opening_with, pieces}
 use Rattle.linkage.proofs.Sound.{sound}
 use Rattle.linkage.proofs.Once.{once, opening_once}

@@ -1,6 +1,6 @@
 -- The ledger of a list of calls: the words of a sentence under work, with the disjuncts that are struck at each.
-use Rattle.std.specs.Prelude.{◌≡◌, ℕ, ◌-◌, Bool, true, false, cond, not, ◌&&◌, ◌||◌, List, [], ◌∷◌, ◌++◌, map, length, take, set, ◌==◌, nat_eq, nat_lt, slice_index_or, slice_set, refl}
-use Rattle.lexicon.specs.Lexicon.{Lexicon, Disjunct, free}
+use Rattle.std.specs.Prelude.{◌≡◌, ℕ, ◌-◌, Bool, true, false, cond, not, ◌&&◌, ◌||◌, List, [], ◌∷◌, ◌++◌, map, length, take, ◌==◌, nat_eq, nat_lt, slice_index_or, slice_set, refl}
+use Rattle.lexicon.specs.Lexicon.{Lexicon, free}
 use Rattle.linkage.specs.declared.call.Call.{Call}
 use Rattle.linkage.specs.declared.call.Call.TheVariants.{Add, Drop, Change, Strike, Allow, Trim, Weigh, Settle}
 use Rattle.linkage.specs.Sentences.{Position, Sentence}

@@ -118,7 +118,7 @@ example_crosses = (refl, refl, refl)
 -- Two words that can be linked: they are, or both are bare.
 abbrev pub example_pair : Sentence
 example_pair = record {
-  matches = eqb;
+  matches = λ a b. a == b;
   positions =
       record { disjuncts = record { left = []; right = 7 ∷ [] } ∷ []; struck = λ k. false }
       ∷ record { disjuncts = record { left = 7 ∷ []; right = [] } ∷ []; struck = λ k. false } ∷ [];

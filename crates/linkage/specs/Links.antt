@@ -1,5 +1,5 @@
 -- The order of links: by their left position, then by their right one.
-use Rattle.std.specs.Prelude.{◌≡◌, ℕ, Bool, true, false, ◌&&◌, ◌||◌, List, [], ◌∷◌, map, ◌==◌, nat_lt, refl}
+use Rattle.std.specs.Prelude.{◌≡◌, ℕ, Bool, true, false, ◌&&◌, ◌||◌, ◌==◌, nat_lt, refl}
 use Rattle.linkage.specs.declared.link.Link.{Link}
 
 -- A link as the definitions of linkages have it.

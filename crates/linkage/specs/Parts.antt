@@ -1,5 +1,5 @@
 -- The parts of a linkage: the groups of words that links hold together.
-use Rattle.std.specs.Prelude.{◌≡◌, ℕ, zero, suc, ◌-◌, ◌<◌, Bool, true, false, cond, not, ◌&&◌, List, [], ◌∷◌, length, ◌==◌, refl}
+use Rattle.std.specs.Prelude.{◌≡◌, ℕ, ◌-◌, ◌<◌, Bool, true, false, cond, not, ◌&&◌, List, [], ◌∷◌, length, ◌==◌, refl}
 use Rattle.linkage.specs.Lists.{◌∈◌, Distinct, every, filter, range}
 use Rattle.linkage.specs.Linkages.{Linkage, Place, links}
 use Rattle.linkage.specs.Sentences.{Choice, bare, takes}

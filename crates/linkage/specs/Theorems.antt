@@ -1,5 +1,5 @@
 -- What is shown of these definitions. Each statement is the contract of a function of `laws`.
-use Rattle.std.specs.Prelude.{◌≡◌, ℕ, ◌-◌, ◌*◌, ◌<◌, ◌≤◌, Bool, true, ◌↔◌, List, length}
+use Rattle.std.specs.Prelude.{◌≡◌, ℕ, ◌-◌, ◌*◌, ◌<◌, ◌≤◌, Bool, ◌↔◌, List, length}
 use Rattle.tally.specs.Semiring.{Semiring}
 use Rattle.linkage.specs.Inside.{Solves, Table, top, whole}
 use Rattle.linkage.specs.Lists.{◌∈◌, Distinct}

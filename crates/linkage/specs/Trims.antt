@@ -1,5 +1,5 @@
 -- Trimming: the largest set of disjuncts of which each connector is matched by a connector of a member.
-use Rattle.std.specs.Prelude.{◌≡◌, ℕ, zero, suc, ◌-◌, Bool, true, false, ◌&&◌, ◌||◌, List, [], ◌∷◌, map, length, nat_lt, refl}
+use Rattle.std.specs.Prelude.{◌≡◌, ℕ, zero, suc, ◌-◌, Bool, true, false, ◌&&◌, ◌||◌, List, [], ◌∷◌, map, length, ◌==◌, nat_lt, refl}
 use Rattle.linkage.specs.Lists.{◌∈◌, concatMap, every, filter, range, some_of}
 use Rattle.linkage.specs.Sentences.{Position, Sentence, asked, position, size, takes, unstruck}
 
@@ -67,7 +67,7 @@ Spares s m = (i k : ℕ) → m i k ≡ true → used i k ∈ kept s → ⊥
 -- nothing on its right matches its 2; and the first word's disjunct that only it would meet is left out in the second round.
 abbrev example : Sentence
 example = record {
-  matches = eqb;
+  matches = λ a b. a == b;
   positions =
       record { disjuncts = record { left = []; right = 1 ∷ [] } ∷ record { left = []; right = 3 ∷ [] } ∷ []; struck = λ k. false }
       ∷ record { disjuncts = record { left = 1 ∷ []; right = 2 ∷ [] } ∷ []; struck = λ k. false }

@@ -19,7 +19,7 @@ pub fn parts_are_classes()
 
 /// The inside recursion gives the sum over all partial linkages, in every tally.
 pub fn inside_is_total<T: Tally>()
-    ensures { InsideIsTotal semiring }
+    ensures { InsideIsTotal T.semiring }
 {}
 
 /// What trim keeps is the largest closed set, and a linkage takes nothing else.
@@ -29,7 +29,7 @@ pub fn kept_is_largest()
 
 /// The sum is the same where disjuncts are left out that trim does not keep.
 pub fn marks_are_free<T: Tally>()
-    ensures { MarksAreFree semiring }
+    ensures { MarksAreFree T.semiring }
 {}
 
 /// A partial linkage has few links.
