@@ -19,7 +19,7 @@ use rows::Rows;
 
 /// Whether each choice is a disjunct of its word, or bare.
 fn all_there<D: Dictionary>(dictionary: &D, rows: &Rows, choices: &[u8]) -> bool
-    ensures { result ≡ every (λ i. there (position (sentence_of (meaning dictionary.now) rows.now) i) (chosen choices.now i)) (range 0 (size (sentence_of (meaning dictionary.now) rows.now))) }
+    ensures { result ≡ every (λ i. there (position (sentence_of (D.meaning dictionary.now) rows.now) i) (chosen choices.now i)) (range 0 (size (sentence_of (D.meaning dictionary.now) rows.now))) }
 {
     for at in 0..rows.length() {
         if !is_there(dictionary, rows, choices, at) {
@@ -31,7 +31,7 @@ fn all_there<D: Dictionary>(dictionary: &D, rows: &Rows, choices: &[u8]) -> bool
 
 /// Whether no choice is struck.
 fn all_allowed<D: Dictionary>(dictionary: &D, rows: &Rows, choices: &[u8]) -> bool
-    ensures { result ≡ every (λ i. allowed (position (sentence_of (meaning dictionary.now) rows.now) i) (chosen choices.now i)) (range 0 (size (sentence_of (meaning dictionary.now) rows.now))) }
+    ensures { result ≡ every (λ i. allowed (position (sentence_of (D.meaning dictionary.now) rows.now) i) (chosen choices.now i)) (range 0 (size (sentence_of (D.meaning dictionary.now) rows.now))) }
 {
     for at in 0..rows.length() {
         if !is_allowed(dictionary, rows, choices, at) {
@@ -49,8 +49,8 @@ fn is_full<D: Dictionary>(
     links: &[Link],
     at: usize,
 ) -> bool
-    requires { (at < size (sentence_of (meaning dictionary.now) rows.now)) × ((every (rises (size (sentence_of (meaning dictionary.now) rows.now))) (pairs links.now) ≡ true) × (ordered (pairs links.now) ≡ true)) }
-    ensures { result ≡ full_at (sentence_of (meaning dictionary.now) rows.now) (filed (size (sentence_of (meaning dictionary.now) rows.now)) choices.now (pairs links.now)) at }
+    requires { (at < size (sentence_of (D.meaning dictionary.now) rows.now)) × ((every (rises (size (sentence_of (D.meaning dictionary.now) rows.now))) (pairs links.now) ≡ true) × (ordered (pairs links.now) ≡ true)) }
+    ensures { result ≡ full_at (sentence_of (D.meaning dictionary.now) rows.now) (filed (size (sentence_of (D.meaning dictionary.now) rows.now)) choices.now (pairs links.now)) at }
 {
     count(links, Sought::From(at)) == list_len(dictionary, rows, choices, at, Side::Right)
         && count(links, Sought::To(at)) == list_len(dictionary, rows, choices, at, Side::Left)
@@ -58,8 +58,8 @@ fn is_full<D: Dictionary>(
 
 /// Whether each word has as many links as it asks for.
 fn all_full<D: Dictionary>(dictionary: &D, rows: &Rows, choices: &[u8], links: &[Link]) -> bool
-    requires { (every (rises (size (sentence_of (meaning dictionary.now) rows.now))) (pairs links.now) ≡ true) × (ordered (pairs links.now) ≡ true) }
-    ensures { result ≡ full (sentence_of (meaning dictionary.now) rows.now) (filed (size (sentence_of (meaning dictionary.now) rows.now)) choices.now (pairs links.now)) }
+    requires { (every (rises (size (sentence_of (D.meaning dictionary.now) rows.now))) (pairs links.now) ≡ true) × (ordered (pairs links.now) ≡ true) }
+    ensures { result ≡ full (sentence_of (D.meaning dictionary.now) rows.now) (filed (size (sentence_of (D.meaning dictionary.now) rows.now)) choices.now (pairs links.now)) }
 {
     for at in 0..rows.length() {
         if !is_full(dictionary, rows, choices, links, at) {
@@ -77,8 +77,8 @@ fn is_match<D: Dictionary>(
     links: &[Link],
     link: &Link,
 ) -> bool
-    requires { (ends link.now ∈ pairs links.now) × ((every (rises (size (sentence_of (meaning dictionary.now) rows.now))) (pairs links.now) ≡ true) × (ordered (pairs links.now) ≡ true)) }
-    ensures { result ≡ matched (sentence_of (meaning dictionary.now) rows.now) (filed (size (sentence_of (meaning dictionary.now) rows.now)) choices.now (pairs links.now)) (ends link.now) }
+    requires { (ends link.now ∈ pairs links.now) × ((every (rises (size (sentence_of (D.meaning dictionary.now) rows.now))) (pairs links.now) ≡ true) × (ordered (pairs links.now) ≡ true)) }
+    ensures { result ≡ matched (sentence_of (D.meaning dictionary.now) rows.now) (filed (size (sentence_of (D.meaning dictionary.now) rows.now)) choices.now (pairs links.now)) (ends link.now) }
 {
     let (from, to) = (link.left, link.right);
     let nearer = count(links, Sought::NearerFrom(from, to));
@@ -90,8 +90,8 @@ fn is_match<D: Dictionary>(
 
 /// Whether the connectors of each link match.
 fn all_match<D: Dictionary>(dictionary: &D, rows: &Rows, choices: &[u8], links: &[Link]) -> bool
-    requires { (every (rises (size (sentence_of (meaning dictionary.now) rows.now))) (pairs links.now) ≡ true) × (ordered (pairs links.now) ≡ true) }
-    ensures { result ≡ matching (sentence_of (meaning dictionary.now) rows.now) (filed (size (sentence_of (meaning dictionary.now) rows.now)) choices.now (pairs links.now)) }
+    requires { (every (rises (size (sentence_of (D.meaning dictionary.now) rows.now))) (pairs links.now) ≡ true) × (ordered (pairs links.now) ≡ true) }
+    ensures { result ≡ matching (sentence_of (D.meaning dictionary.now) rows.now) (filed (size (sentence_of (D.meaning dictionary.now) rows.now)) choices.now (pairs links.now)) }
 {
     for link in links {
         if !is_match(dictionary, rows, choices, links, link) {
@@ -108,8 +108,8 @@ pub fn check<D: Dictionary>(
     choices: &[u8],
     links: &[Link],
 ) -> Result<usize, Refusal>
-    ensures answer { result ≡ checked (sentence_of (meaning dictionary.now) rows.now) choices.now (pairs links.now) }
-    ensures right { JudgedRight (sentence_of (meaning dictionary.now) rows.now) choices.now (pairs links.now) }
+    ensures answer { result ≡ checked (sentence_of (D.meaning dictionary.now) rows.now) choices.now (pairs links.now) }
+    ensures right { JudgedRight (sentence_of (D.meaning dictionary.now) rows.now) choices.now (pairs links.now) }
 {
     let words = rows.length();
     if words == 0 {

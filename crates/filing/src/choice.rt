@@ -28,7 +28,7 @@ pub(crate) fn is_there<D: Dictionary>(
     choices: &[u8],
     at: usize,
 ) -> bool
-    ensures { result ≡ there (position (sentence_of (meaning dictionary.now) rows.now) at) (chosen choices.now at) }
+    ensures { result ≡ there (position (sentence_of (D.meaning dictionary.now) rows.now) at) (chosen choices.now at) }
 {
     let Some(disjunct) = number(choices, at) else {
         return true;
@@ -46,7 +46,7 @@ pub(crate) fn is_allowed<D: Dictionary>(
     choices: &[u8],
     at: usize,
 ) -> bool
-    ensures { result ≡ allowed (position (sentence_of (meaning dictionary.now) rows.now) at) (chosen choices.now at) }
+    ensures { result ≡ allowed (position (sentence_of (D.meaning dictionary.now) rows.now) at) (chosen choices.now at) }
 {
     match number(choices, at) {
         Some(disjunct) => !rows.is_struck(at, disjunct),
@@ -62,7 +62,7 @@ pub(crate) fn list_len<D: Dictionary>(
     at: usize,
     side: Side,
 ) -> usize
-    ensures { result ≡ length (side_of (asked (position (sentence_of (meaning dictionary.now) rows.now) at) (chosen choices.now at)) side) }
+    ensures { result ≡ length (side_of (asked (position (sentence_of (D.meaning dictionary.now) rows.now) at) (chosen choices.now at)) side) }
 {
     let Some(disjunct) = number(choices, at) else {
         return 0;
@@ -82,7 +82,7 @@ pub(crate) fn connector<D: Dictionary>(
     side: Side,
     place: usize,
 ) -> u16
-    ensures { result ≡ slice_index (side_of (asked (position (sentence_of (meaning dictionary.now) rows.now) at) (chosen choices.now at)) side) place }
+    ensures { result ≡ slice_index (side_of (asked (position (sentence_of (D.meaning dictionary.now) rows.now) at) (chosen choices.now at)) side) place }
 {
     let Some(disjunct) = number(choices, at) else {
         return 0;

@@ -46,7 +46,7 @@ impl<D: Dictionary> Folio<D> {
     /// Puts a word last, with nothing struck, and gives its position.
     pub fn add(&mut self, word: u16) -> Result<usize, Refusal>
         ensures answer { result ≡ added (ledger_of self.old.rows) }
-        ensures edit { Edited (meaning self.old.dictionary) self.old.rows self.new.rows (Add word) result }
+        ensures edit { Edited (D.meaning self.old.dictionary) self.old.rows self.new.rows (Add word) result }
         ensures dictionary { self.new.dictionary ≡ self.old.dictionary }
     {
         self.rows.add(word)
@@ -55,7 +55,7 @@ impl<D: Dictionary> Folio<D> {
     /// Takes the last word off, and gives it.
     pub fn drop(&mut self) -> Result<u16, Refusal>
         ensures answer { result ≡ dropped (ledger_of self.old.rows) }
-        ensures edit { Edited (meaning self.old.dictionary) self.old.rows self.new.rows Drop result }
+        ensures edit { Edited (D.meaning self.old.dictionary) self.old.rows self.new.rows Drop result }
         ensures dictionary { self.new.dictionary ≡ self.old.dictionary }
     {
         self.rows.drop()
@@ -64,7 +64,7 @@ impl<D: Dictionary> Folio<D> {
     /// Puts another word at a position, with nothing struck, and gives the old one.
     pub fn change(&mut self, position: usize, word: u16) -> Result<u16, Refusal>
         ensures answer { result ≡ changed (ledger_of self.old.rows) position }
-        ensures edit { Edited (meaning self.old.dictionary) self.old.rows self.new.rows (Change position word) result }
+        ensures edit { Edited (D.meaning self.old.dictionary) self.old.rows self.new.rows (Change position word) result }
         ensures dictionary { self.new.dictionary ≡ self.old.dictionary }
     {
         self.rows.change(position, word)
@@ -72,8 +72,8 @@ impl<D: Dictionary> Folio<D> {
 
     /// Strikes a disjunct, and gives how many strikes that set.
     pub fn strike(&mut self, position: usize, disjunct: usize) -> Result<usize, Refusal>
-        ensures answer { result ≡ newly_struck (meaning self.old.dictionary) (ledger_of self.old.rows) position disjunct }
-        ensures edit { Edited (meaning self.old.dictionary) self.old.rows self.new.rows (Strike position disjunct) result }
+        ensures answer { result ≡ newly_struck (D.meaning self.old.dictionary) (ledger_of self.old.rows) position disjunct }
+        ensures edit { Edited (D.meaning self.old.dictionary) self.old.rows self.new.rows (Strike position disjunct) result }
         ensures dictionary { self.new.dictionary ≡ self.old.dictionary }
     {
         self.rows.strike(&self.dictionary, position, disjunct)
@@ -81,8 +81,8 @@ impl<D: Dictionary> Folio<D> {
 
     /// Takes the strike off a disjunct, and gives how many strikes that cleared.
     pub fn allow(&mut self, position: usize, disjunct: usize) -> Result<usize, Refusal>
-        ensures answer { result ≡ newly_allowed (meaning self.old.dictionary) (ledger_of self.old.rows) position disjunct }
-        ensures edit { Edited (meaning self.old.dictionary) self.old.rows self.new.rows (Allow position disjunct) result }
+        ensures answer { result ≡ newly_allowed (D.meaning self.old.dictionary) (ledger_of self.old.rows) position disjunct }
+        ensures edit { Edited (D.meaning self.old.dictionary) self.old.rows self.new.rows (Allow position disjunct) result }
         ensures dictionary { self.new.dictionary ≡ self.old.dictionary }
     {
         self.rows.allow(&self.dictionary, position, disjunct)
@@ -104,7 +104,7 @@ impl<D: Dictionary> Folio<D> {
 
     /// How many disjuncts of the word at a position are neither struck nor marked.
     pub fn standing(&self, position: usize) -> Result<usize, Refusal>
-        ensures { result ≡ standing_of (meaning self.now.dictionary) (ledger_of self.now.rows) (marks_of self.now.rows) position }
+        ensures { result ≡ standing_of (D.meaning self.now.dictionary) (ledger_of self.now.rows) (marks_of self.now.rows) position }
     {
         self.rows.standing(&self.dictionary, position)
     }

@@ -73,7 +73,7 @@ impl Rows {
         position: usize,
         disjunct: usize,
     ) -> Result<(), Refusal>
-        ensures { Finds (meaning dictionary.now) self.now position disjunct result }
+        ensures { Finds (D.meaning dictionary.now) self.now position disjunct result }
     {
         if position >= self.len {
             return Err(Refusal::NoPosition);
@@ -91,8 +91,8 @@ impl Rows {
         position: usize,
         disjunct: usize,
     ) -> Result<usize, Refusal>
-        ensures answer { result ≡ newly_struck (meaning dictionary.now) (ledger_of self.old) position disjunct }
-        ensures edit { Edited (meaning dictionary.now) self.old self.new (Strike position disjunct) result }
+        ensures answer { result ≡ newly_struck (D.meaning dictionary.now) (ledger_of self.old) position disjunct }
+        ensures edit { Edited (D.meaning dictionary.now) self.old self.new (Strike position disjunct) result }
     {
         self.find(dictionary, position, disjunct)?;
         let struck = self.struck[position];
@@ -108,8 +108,8 @@ impl Rows {
         position: usize,
         disjunct: usize,
     ) -> Result<usize, Refusal>
-        ensures answer { result ≡ newly_allowed (meaning dictionary.now) (ledger_of self.old) position disjunct }
-        ensures edit { Edited (meaning dictionary.now) self.old self.new (Allow position disjunct) result }
+        ensures answer { result ≡ newly_allowed (D.meaning dictionary.now) (ledger_of self.old) position disjunct }
+        ensures edit { Edited (D.meaning dictionary.now) self.old self.new (Allow position disjunct) result }
     {
         self.find(dictionary, position, disjunct)?;
         let struck = self.struck[position];

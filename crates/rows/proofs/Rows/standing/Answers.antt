@@ -7,7 +7,7 @@ returns-then-position-self g c = nowhere c.args.self.now c.args.position c.if-po
 
 pub returns : goal.returns
 returns g c =
-    ap Ok c.count-outside.ensures
+    ap Ok c.count_outside.ensures
     ∙ stands c.args.self.now c.args.position c.if-position-self.false
     (g.D.Dictionary.meaning c.args.dictionary.now)
     c.union-out.result

@@ -5,14 +5,14 @@ use Rattle.rows.proofs.Calls.{accepted, strikes, is_known, not_struck, refused}
 use Rattle.rows.proofs.Members.{unmarked}
 use Rattle.rows.proofs.Rows.strike.Goals as goal
 
-pub returns-in-err-find : goal.returns-in-err-find
-returns-in-err-find g c =
+pub returns-in_err-find : goal.returns-in_err-find
+returns-in_err-find g c =
     let lex = g.D.Dictionary.meaning c.args.dictionary.now in
     let r = c.args.self.now in
     let p = c.args.position in
     let d = c.args.disjunct in
-    let e = err_from_is_err_and c.from-residual.result c.from-residual.ensures.1 in
-    let lacks = c.in-err-find.ensures in
+    let e = err_from_is_err_and c.from_residual.result c.from_residual.ensures.1 in
+    let lacks = c.in_err-find.ensures in
     rw (e.1, e.2) (record { answer = lacks.1 _; edit = refused lex r (Strike p d) (not_struck r lex p d lacks.0) })
 
 pub returns : goal.returns
@@ -21,7 +21,7 @@ returns g c =
     let r = c.args.self.now in
     let p = c.args.position in
     let d = c.args.disjunct in
-    let (h, k) = c.in-ok-find.ensures in
+    let (h, k) = c.in_ok-find.ensures in
     record {
       answer =
           is_known r p h lex d k not c.from.result c.contains.result c.from.ensures c.contains.ensures;
