@@ -1,20 +1,20 @@
 -- Counting links tells the neighbours of a word: how many there are on each side, and which place each has among them.
-use Rattle.std.proofs.Common.{◌≡◌, ℕ, zero, suc, ◌+◌, ◌<◌, ◌≤◌, Bool, true, false, cond, not, ◌&&◌, eqb, ltb, ◌⊎◌, List, [], ◌∷◌, ◌++◌, map, length, get_or, sym, refl, ap, ◌∙◌, subst, ap₂, inl, inr, add-zero, add_comm, arith, length-append}
+use Rattle.std.proofs.Common.{◌≡◌, ℕ, suc, ◌+◌, ◌≤◌, Bool, true, false, cond, ◌&&◌, eqb, ltb, ◌⊎◌, List, [], ◌∷◌, ◌++◌, map, length, get_or, sym, refl, ap, ◌∙◌, subst, ap₂, inl, inr, add_comm, arith, length-append}
 use lib.ListN.{length-map}
-use Rattle.std.proofs.lemmas.Bool.{and_left, and_parts, and_right, cases_Bool, cases_eq, cond_both, cond-false, cond-true, eq-eqb, eqb-true, le-ltb, lt-ltb, ne_eqb}
+use Rattle.std.proofs.lemmas.Bool.{and_right, cond-false, cond-true, eq-eqb, le-ltb, lt-ltb, ne_eqb}
 use Rattle.linkage.specs.Lists.{◌∈◌, here, there, filter, has, place_of}
-use Rattle.linkage.specs.Linkages.{Linkage, Rising, after, before, links, links_from, unlinked}
+use Rattle.linkage.specs.Linkages.{Linkage, Rising, before, links, links_from, unlinked}
 use Rattle.linkage.specs.Sentences.{Sentence, rights}
 use Rattle.linkage.proofs.Fits.{Side, into, of_into}
 use Rattle.linkage.proofs.Joins.{Wire}
-use Rattle.linkage.proofs.Members.{eqb_cases, filter_++, filter_cong, has_in, has_not, in_cases, in_has, in_map, in_none, in_split, of_map}
+use Rattle.linkage.proofs.Members.{eqb_cases, filter_++, filter_cong, in_cases, in_has, in_none, in_split, of_map}
 use Rattle.linkage.proofs.Rows.{Rows, outs, outs_span, rising_in}
 use Rattle.linkage.proofs.Tested.{into_before}
 use Rattle.linkage.proofs.Weights.{of_links}
 use Rattle.filing.specs.Counts.{sought}
 use Rattle.filing.specs.Filings.{row_of}
 use Rattle.filing.specs.declared.count.Sought.TheVariants.{From, To, NearerFrom, NearerTo}
-use Rattle.filing.proofs.Refiled.{filter_all, filter_none, links_late, rows_again}
+use Rattle.filing.proofs.Refiled.{filter_none, links_late}
 
 filter_and : {A : Type 0} (p q : A → Bool) (xs : List A) → filter (λ x. p x && q x) xs ≡ filter q (filter p xs)
 filter_and p q [] = refl

@@ -1,12 +1,12 @@
 -- What counting links tells of the linkage that is filed. Assumes that the links rise within the words and stand in order.
-use Rattle.std.proofs.Common.{◌≡◌, ℕ, zero, suc, ◌+◌, ◌<◌, ◌≤◌, Bool, true, false, not, ◌&&◌, eqb, ltb, ◌⊎◌, List, [], ◌∷◌, map, length, get_or, sym, refl, ap, ◌∙◌, subst, ap₂, inl, inr, arith}
+use Rattle.std.proofs.Common.{◌≡◌, ℕ, zero, suc, ◌<◌, true, not, ◌&&◌, eqb, ltb, List, length, get_or, sym, refl, ap, ◌∙◌, subst, ap₂, arith}
 use Rattle.std.proofs.lemmas.Bool.{and_parts, eq-eqb, ltb-true}
 use Rattle.lexicon.specs.Lexicon.{side_of}
 use Rattle.lexicon.specs.declared.side.Side.TheVariants.{Left, Right}
 use Rattle.linkage.specs.Lists.{◌∈◌, every, filter, place_of}
-use Rattle.linkage.specs.Linkages.{Linkage, Place, Rising, after, before, choice_at, crosses, full_at, left_end, left_list, links, matched, right_end, right_list, uncrossed, unlinked}
+use Rattle.linkage.specs.Linkages.{Linkage, Place, Rising, after, crosses, full_at, left_list, links, matched, right_list, uncrossed}
 use Rattle.linkage.specs.Parts.{heads, parts}
-use Rattle.linkage.specs.Sentences.{Choice, Sentence, asked, position, size}
+use Rattle.linkage.specs.Sentences.{Sentence, asked, position, size}
 use Rattle.linkage.proofs.Joins.{Wire}
 use Rattle.linkage.proofs.Members.{every_in, in_filter, in_map}
 use Rattle.linkage.proofs.Rows.{Rows}

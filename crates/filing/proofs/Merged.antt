@@ -1,11 +1,11 @@
 -- What a link more does to the parts: where its ends are joined already nothing changes, else two parts become one, so that
 -- there is one head fewer; and labels that tell the parts tell them again once the one end's label is put for the other's.
-use Rattle.std.proofs.Common.{◌≡◌, ℕ, zero, suc, ◌+◌, ◌<◌, ◌≤◌, max, Bool, true, false, cond, not, ◌&&◌, eqb, ◌⊎◌, ◌↔◌, List, [], ◌∷◌, ◌++◌, length, sym, refl, ap, ◌∙◌, subst, inl, inr, arith}
+use Rattle.std.proofs.Common.{◌≡◌, ℕ, zero, suc, ◌<◌, ◌≤◌, max, Bool, true, false, cond, not, ◌&&◌, eqb, ◌↔◌, List, [], ◌∷◌, ◌++◌, length, sym, refl, ap, ◌∙◌, subst, inl, inr, arith}
 use Rattle.std.proofs.lemmas.Bool.{and_from, and_parts, cases_Bool, cases_eq, cases_order, cond-false, cond-true, eq-eqb, ne_eqb, not_from_false, not_from_true}
 use Rattle.linkage.specs.Lists.{◌∈◌, here, there, Distinct, filter, range}
 use Rattle.linkage.specs.Parts.{Joined, heads, label, leads}
-use Rattle.linkage.proofs.Joins.{First, Leads, NoneBelow, Same, Wire, first_or_none, labels_tell, leads_eq, leads_of, of_leads, same_cases, same_more, same_sub, same_wire}
-use Rattle.linkage.proofs.Members.{filter_cong, in_cases, in_filter, in_left, in_none, in_right, in_split, not_in, not_of, same_test}
+use Rattle.linkage.proofs.Joins.{First, Leads, Same, Wire, first_or_none, labels_tell, leads_eq, leads_of, of_leads, same_cases, same_more, same_sub, same_wire}
+use Rattle.linkage.proofs.Members.{filter_cong, in_cases, in_left, in_none, in_right, in_split, not_in, not_of, same_test}
 use Rattle.linkage.proofs.Ranges.{distinct_range, in_range, of_range}
 use Rattle.filing.proofs.Refiled.{filter_all}
 

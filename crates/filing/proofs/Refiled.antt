@@ -1,14 +1,13 @@
 -- Rows and links tell the same: the links of a filing, laid out in rows and taken together again, are the links that were filed;
 -- and a linkage that is filed is read back.
-use Rattle.std.proofs.Common.{◌≡◌, ℕ, zero, suc, ◌+◌, ◌<◌, ◌≤◌, Bool, true, false, cond, not, ◌&&◌, ◌||◌, eqb, ltb, ◌⊎◌, List, [], ◌∷◌, ◌++◌, map, length, get_or, sym, refl, ap, ◌∙◌, subst, ap₂, inl, inr, append-nil, add-zero, zero-add, arith}
-use lib.ListN.{get_or-map}
+use Rattle.std.proofs.Common.{◌≡◌, ℕ, zero, suc, ◌+◌, ◌<◌, ◌≤◌, Bool, true, false, cond, not, ◌&&◌, eqb, ltb, ◌⊎◌, List, [], ◌∷◌, ◌++◌, map, length, get_or, sym, refl, ap, ◌∙◌, ap₂, inl, inr, append-nil, add-zero, zero-add, arith}
 use Rattle.std.proofs.lemmas.Bool.{and_from, and_parts, cases_Bool, cases_eq, cond_both, cond-false, cond-true, eq-eqb, eqb-true, lt-ltb, ltb-true, ne_eqb, not_from_false, not_from_true, not-true, or_cases, or_left, or_right}
 use Rattle.linkage.specs.Lists.{◌∈◌, here, there, every, filter, range}
-use Rattle.linkage.specs.Linkages.{Linkage, Place, Rising, after, choice_at, links, links_from, unlinked}
+use Rattle.linkage.specs.Linkages.{Linkage, Place, Rising, choice_at, links, links_from, unlinked}
 use Rattle.linkage.specs.Links.{earlier}
 use Rattle.linkage.specs.Sentences.{Choice, bare, takes}
 use Rattle.linkage.proofs.Joins.{Wire}
-use Rattle.linkage.proofs.Members.{every_in, every_of, filter_++, filter_cong, in_cases, in_filter, in_map, in_none, in_one, in_split, of_filter, of_map}
+use Rattle.linkage.proofs.Members.{every_in, every_of, filter_++, in_cases, in_one, in_split, of_filter, of_map}
 use Rattle.linkage.proofs.Ranges.{of_range}
 use Rattle.linkage.proofs.Rows.{Rows, behind, rising_in}
 use Rattle.linkage.proofs.Weights.{of_links}

@@ -1,22 +1,22 @@
 -- A filing is accepted exactly where it is a partial linkage, with its number of parts. Assumes that no position has more than 64
 -- disjuncts, so that 255 is none of their numbers.
-use Rattle.std.proofs.Common.{◌≡◌, ℕ, zero, suc, ◌+◌, ◌<◌, ◌≤◌, Bool, true, false, cond, not, ◌&&◌, eqb, ltb, ◌⊎◌, ◌↔◌, List, [], ◌∷◌, map, length, get_or, Ok, Err, Result, sym, refl, ap, ◌∙◌, subst, subst₂, inl, inr, zero-add, arith}
+use Rattle.std.proofs.Common.{◌≡◌, ℕ, ◌<◌, ◌≤◌, Bool, true, false, cond, not, ltb, List, [], ◌∷◌, map, length, get_or, Ok, Err, sym, refl, ap, ◌∙◌, subst, subst₂, inl, inr, arith}
 use lib.ListN.{length-map, get_or-eq_default}
 use Rattle.refusal.specs.declared.Refusal.{Refusal}
-use Rattle.std.proofs.lemmas.Bool.{and_from, and_parts, cases_lt, cond_both, eq-eqb, eqb-true, lt-ltb, ltb-true}
+use Rattle.std.proofs.lemmas.Bool.{and_from, and_parts, cases_lt, eq-eqb, eqb-true, lt-ltb, ltb-true}
 use Rattle.linkage.specs.Lists.{◌∈◌, here, there, every, range}
-use Rattle.linkage.specs.Linkages.{Linkage, Partial, Place, Rising, after, choice_at, full, keeps_rules, links, matching, uncrossed, unlinked}
+use Rattle.linkage.specs.Linkages.{Linkage, Partial, Place, Rising, choice_at, full, keeps_rules, links, matching, uncrossed, unlinked}
 use Rattle.linkage.specs.Parts.{parts}
-use Rattle.linkage.specs.Sentences.{Choice, Position, Sentence, bare, choices, position, size, takes, unstruck}
+use Rattle.linkage.specs.Sentences.{Choice, Sentence, bare, choices, position, size, takes}
 use Rattle.linkage.proofs.Joins.{Wire}
 use Rattle.linkage.proofs.Listed.{rows_of}
 use Rattle.linkage.proofs.Members.{every_in, every_of, in_filter, in_map, of_filter}
 use Rattle.linkage.proofs.Ranges.{in_range, of_range}
-use Rattle.linkage.proofs.Rows.{each_at, rising_in}
+use Rattle.linkage.proofs.Rows.{rising_in}
 use Rattle.linkage.proofs.Taken.{of_choices}
 use Rattle.linkage.proofs.Tested.{in_test, of_test}
 use Rattle.linkage.proofs.Weights.{of_links}
-use Rattle.filing.specs.Filings.{Files, JudgedRight, allowed, byte_of, checked, choice_of, chosen, filed, judged, ordered, rises, row_of, tests, there as is_there}
+use Rattle.filing.specs.Filings.{Files, JudgedRight, allowed, byte_of, checked, choice_of, chosen, filed, judged, ordered, rises, tests, there as is_there}
 use Rattle.filing.proofs.Refiled.{bytes_again, filed_at, filed_length, links_ordered, refiled, relinked, row_rises}
 
 -- A list of tests passes where each does.

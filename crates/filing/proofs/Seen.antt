@@ -1,16 +1,16 @@
 -- What the answers of a folio's rows say of a position as its linkages see it, and what a choice that is told by its number is.
-use Rattle.std.proofs.Common.{◌≡◌, ℕ, zero, suc, ◌<◌, ◌≤◌, Bool, true, false, cond, eqb, ltb, ◌⊎◌, List, [], ◌∷◌, map, length, get_or, Some, None, Ok, Err, Result, sym, refl, ap, ◌∙◌, subst, inl, inr, arith}
+use Rattle.std.proofs.Common.{◌≡◌, ℕ, zero, suc, ◌<◌, ◌≤◌, Bool, true, false, cond, eqb, ltb, List, [], ◌∷◌, map, length, get_or, Some, None, Ok, Err, Result, sym, refl, ap, ◌∙◌, inl, inr, arith}
 use lib.ListN.{get_or-eq_default, length-map}
 use Rattle.std.proofs.lemmas.List.{get_or-map}
 use Rattle.std.proofs.lemmas.Bool.{cases_Bool, cond-false, cond-true, eq-eqb, ltb-true, ltb-false, ne_eqb}
 use Rattle.refusal.specs.declared.Refusal.{Refusal}
 use Rattle.refusal.specs.declared.Refusal.TheVariants.{NoPosition}
-use Rattle.lexicon.specs.Lexicon.{Disjunct, Lexicon, free, list_of, side_of}
+use Rattle.lexicon.specs.Lexicon.{Lexicon, free, list_of, side_of}
 use Rattle.lexicon.specs.declared.side.Side.{Side}
 use Rattle.linkage.specs.Ledgers.{Ledger, Row, fresh, row_at, seen, sentence}
 use Rattle.linkage.specs.Sentences.{Choice, Position, asked, bare, nowhere, position, size, takes}
 use Rattle.rows.specs.Answers.{word_of}
-use Rattle.filing.specs.Filings.{choice_of, chosen, number_of}
+use Rattle.filing.specs.Filings.{chosen, number_of}
 
 -- A choice that is told by its number.
 pub chosen_takes : (c : Choice) (k : ℕ) → Some k ≡ number_of c → c ≡ takes k

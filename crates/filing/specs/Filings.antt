@@ -1,5 +1,5 @@
 -- How a filing is judged: choices and links that somebody gives for the words of a sentence.
-use Rattle.std.specs.Prelude.{◌≡◌, ℕ, ◌<◌, ◌≤◌, Bool, true, false, cond, not, ◌&&◌, ◌↔◌, List, [], ◌∷◌, map, length, Some, None, Ok, Err, Option, Result, ◌==◌, nat_eq, nat_lt, slice_index_or, refl}
+use Rattle.std.specs.Prelude.{◌≡◌, ℕ, ◌<◌, Bool, true, false, cond, not, ◌&&◌, ◌↔◌, List, [], ◌∷◌, map, length, Some, None, Ok, Err, Option, Result, ◌==◌, nat_eq, nat_lt, slice_index_or, refl}
 use Rattle.refusal.specs.declared.Refusal.{Refusal}
 use Rattle.refusal.specs.declared.Refusal.TheVariants.{NoWords, ChoiceCount, NoChoice, StruckChoice, LinkEnds, LinkOrder, Crossing, LinkCount, NoMatch}
 use Rattle.linkage.specs.Lists.{every, filter, range}

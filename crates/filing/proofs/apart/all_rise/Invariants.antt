@@ -1,7 +1,5 @@
-use Rattle.std.proofs.Common.{◌≡◌, true, not, take}
+use Rattle.std.proofs.Common.{◌≡◌, true, take}
 use Rattle.linkage.specs.Lists.{every}
-use Rattle.linkage.specs.Linkages.{crosses}
-use Rattle.linkage.specs.Links.{ends}
 use Rattle.filing.specs.Counts.{pairs}
 use Rattle.filing.specs.Filings.{rises}
 use Rattle.filing.proofs.apart.all_rise.Given as goal

@@ -3,7 +3,6 @@ use Rattle.linkage.specs.Lists.{every}
 use Rattle.linkage.specs.Linkages.{crosses}
 use Rattle.linkage.specs.Links.{ends}
 use Rattle.filing.specs.Counts.{pairs}
-use Rattle.filing.specs.Filings.{rises}
 use Rattle.filing.proofs.apart.crosses_none.Given as goal
 
 abbrev pub invariant-loop-other : goal.invariant-loop-other

@@ -1,5 +1,4 @@
-use Rattle.std.proofs.Common.{◌≡◌, ◌≤◌, true, length, sym, subst, arith}
-use Rattle.filing.specs.Counts.{pairs}
+use Rattle.std.proofs.Common.{◌≡◌, true, sym, subst}
 use Rattle.filing.specs.Filings.{ordered}
 use Rattle.filing.proofs.Loops.{order_fails, order_more, pairs_all}
 use Rattle.filing.proofs.apart.in_order.Goals as goal

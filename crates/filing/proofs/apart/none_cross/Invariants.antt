@@ -1,9 +1,7 @@
 use Rattle.std.proofs.Common.{◌≡◌, true, not, take}
 use Rattle.linkage.specs.Lists.{every}
 use Rattle.linkage.specs.Linkages.{crosses}
-use Rattle.linkage.specs.Links.{ends}
 use Rattle.filing.specs.Counts.{pairs}
-use Rattle.filing.specs.Filings.{rises}
 use Rattle.filing.proofs.apart.none_cross.Given as goal
 
 abbrev pub invariant-loop-link : goal.invariant-loop-link

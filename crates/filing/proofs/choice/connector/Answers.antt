@@ -1,4 +1,4 @@
-use Rattle.std.proofs.Common.{length, get_or, sym, ap, ◌∙◌}
+use Rattle.std.proofs.Common.{get_or, sym, ap, ◌∙◌}
 use Rattle.rows.specs.Tables.{ledger_of}
 use Rattle.filing.specs.Filings.{chosen}
 use Rattle.filing.proofs.Seen.{free_side, missing_list, told_list}

@@ -13,4 +13,4 @@ returns-in-Some g c =
     let i = c.args.at in
     let o = chosen c.args.choices.now i in
     let k = c.in-Some.disjunct in
-    ap not (c.is-struck.ensures ∙ sym (struck_seen lex l i k)) ∙ sym (ap (allowed (position (sentence lex l) i)) (chosen_takes o k c.in-Some.ensures))
+    ap not (c.is_struck.ensures ∙ sym (struck_seen lex l i k)) ∙ sym (ap (allowed (position (sentence lex l) i)) (chosen_takes o k c.in-Some.ensures))

@@ -1,4 +1,4 @@
-use Rattle.std.proofs.Common.{length, get_or, sym, ap, ◌∙◌}
+use Rattle.std.proofs.Common.{length, sym, ap, ◌∙◌}
 use Rattle.rows.specs.Tables.{ledger_of}
 use Rattle.filing.specs.Filings.{chosen}
 use Rattle.filing.proofs.Seen.{free_side, missing_list, told_list}
@@ -9,7 +9,7 @@ returns-in-Ok g c =
     let lex = g.D.Dictionary.meaning c.args.dictionary.now in
     let l = ledger_of c.args.rows.now in
     let i = c.args.at in
-    c.list-len.ensures
+    c.list_len.ensures
     ∙ sym (ap length (told_list lex l i (chosen c.args.choices.now i) c.in-Some.disjunct c.in-Some.ensures c.in-Ok.word c.in-Ok.ensures c.args.side))
 
 pub returns-in-Err : goal.returns-in-Err

@@ -1,4 +1,4 @@
-use Rattle.std.proofs.Common.{◌≡◌, Some, sym, ap, ◌∙◌, arith}
+use Rattle.std.proofs.Common.{Some, sym, ap, ◌∙◌}
 use lib.ListN.{get_or-eq_default}
 use Rattle.filing.proofs.Seen.{byte_bare, byte_takes, get_d_any}
 use Rattle.filing.proofs.choice.number.Goals as goal

@@ -1,4 +1,4 @@
-use Rattle.std.proofs.Common.{◌≡◌, ◌+◌, length, sym, ap, ◌∙◌, arith}
+use Rattle.std.proofs.Common.{◌+◌, length, sym, ap, ◌∙◌, arith}
 use Rattle.linkage.specs.Lists.{filter}
 use Rattle.filing.specs.Counts.{sought}
 use Rattle.filing.proofs.Loops.{count_no, count_yes, pairs_all}

@@ -1,4 +1,4 @@
-use Rattle.std.proofs.Common.{ℕ, ◌≤◌, [], sym, refl, ◌∙◌, arith}
+use Rattle.std.proofs.Common.{◌≤◌, [], sym, refl, ◌∙◌, arith}
 use Rattle.linkage.proofs.Joins.{labels_tell}
 use Rattle.filing.proofs.Merged.{heads_apart}
 use Rattle.filing.proofs.joins.Joins.apart.Goals as goal
@@ -7,7 +7,7 @@ pub returns : goal.returns
 returns c =
     let n = c.args.count in
     let few : n ≤ 40 = c.requires in
-    let own = c.own-labels.ensures.1 in
+    let own = c.own_labels.ensures.1 in
     record {
       holds = record {
         labels = λ u v h k. (

@@ -1,4 +1,4 @@
-use Rattle.std.proofs.Common.{◌≡◌, ℕ, ◌≤◌, get_or, sym, refl, ap, ◌∙◌, arith}
+use Rattle.std.proofs.Common.{ℕ, ◌≤◌, get_or, sym, refl, ◌∙◌, arith}
 use Rattle.linkage.specs.Links.{ends}
 use Rattle.filing.proofs.Merged.{parts_idle, parts_merged, says_idle, says_merged}
 use Rattle.filing.proofs.joins.Joins.join.Goals as goal
@@ -15,7 +15,7 @@ returns-then-old-new c =
         parts =
             let fewer = parts_merged j.count (ends c.args.link.now) es f c.requires.0 c.requires.1 h.labels c.if-old-new.true in
             let was = h.parts in
-            c.saturating-sub-self.ensures ∙ omega arith;
+            c.saturating_sub-self.ensures ∙ omega arith;
       };
       count = refl;
     }
