@@ -1,5 +1,6 @@
 mod Counted
 mod Filed
+mod Judged
 mod Loops
 mod Merged
 mod Refiled

@@ -20,7 +20,7 @@ use Rattle.filing.specs.Filings.{Files, JudgedRight, allowed, byte_of, checked, 
 use Rattle.filing.proofs.Refiled.{bytes_again, filed_at, filed_length, links_ordered, refiled, relinked, row_rises}
 
 -- A list of tests passes where each does.
-abbrev passed : List (Bool × Refusal) → Bool
+abbrev pub passed : List (Bool × Refusal) → Bool
 passed ts = every (λ (t : Bool × Refusal). t.0) ts
 
 pub judged_passed : {A : Type 0} (ts : List (Bool × Refusal)) (a : A) → passed ts ≡ true → judged ts a ≡ Ok a

@@ -14,7 +14,7 @@ use Rattle.linkage.specs.Sentences.{unstruck}
 use Rattle.linkage.specs.Trims.{marked}
 use Rattle.rows.specs.declared.Rows.{Rows}
 use Rattle.rows.specs.Answers.{Answer, added, counted, dropped, if_known, if_there, standing_of, word_of}
-use Rattle.rows.specs.Edits.{Edited, Goes_on}
+use Rattle.rows.specs.Edits.{Edited, GoesOn}
 use Rattle.rows.specs.Sets.{members}
 use Rattle.rows.specs.Tables.{ledger_of, listed, marks_of, no_marks, row}
 use Rattle.rows.proofs.Listed.{length_listed, listed_at, listed_push, listed_set, listed_take}
@@ -27,7 +27,7 @@ steps_more lex g [] c = refl
 steps_more lex g (b ∷ cs) c = steps_more lex (step lex g b) cs c
 
 module _ (lex : Lexicon) (r : Rows) (c : Call) where
-  goes_on : (h : Ledger) → h ≡ step lex (ledger_of r) c → Goes_on lex (ledger_of r) h c
+  goes_on : (h : Ledger) → h ≡ step lex (ledger_of r) c → GoesOn lex (ledger_of r) h c
   goes_on h e cs d = e ∙ ap (λ g. step lex g c) d ∙ sym (steps_more lex [] cs c)
 
   pub refused : {e : Refusal} → ledger_of r ≡ step lex (ledger_of r) c → Edited lex r r c (Err e)

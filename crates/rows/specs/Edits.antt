@@ -9,8 +9,8 @@ use Rattle.rows.specs.Answers.{Answer, if_known}
 use Rattle.rows.specs.Tables.{ledger_of, marks_of, no_marks}
 
 -- The call goes on with any history: where the ledger before is that of some calls, the ledger after is that of these and the call.
-abbrev pub Goes_on : Lexicon → (before after : Ledger) → Call → Type 0
-Goes_on lex g h c = (cs : List Call) → g ≡ ledger lex cs → h ≡ ledger lex (cs ++ (c ∷ []))
+abbrev pub GoesOn : Lexicon → (before after : Ledger) → Call → Type 0
+GoesOn lex g h c = (cs : List Call) → g ≡ ledger lex cs → h ≡ ledger lex (cs ++ (c ∷ []))
 
 -- An accepted edit clears every mark, a refused one leaves all as it was.
 abbrev pub Cleared : (before after : Rows) → Answer → Type 0
@@ -19,7 +19,7 @@ Cleared r s (Err e) = s ≡ r
 
 pub record Edited (lex : Lexicon) (before after : Rows) (call : Call) (answer : Answer) : Type 0 where
   pub stepped : ledger_of after ≡ step lex (ledger_of before) call
-  pub history : Goes_on lex (ledger_of before) (ledger_of after) call
+  pub history : GoesOn lex (ledger_of before) (ledger_of after) call
   pub cleared : Cleared before after answer
 
 -- What is found where a disjunct is looked for: that the tables have it, or why the ledger does not.

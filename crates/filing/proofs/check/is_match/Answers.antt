@@ -13,6 +13,6 @@ returns g c =
     let es = pairs c.args.links.now in
     let e = ends c.args.link.now in
     c.matches.ensures
-    ∙ ap₂ s.matches (c.connector.ensures ∙ ap (λ k. get_or (asked_on s cs e.0 Right) k 0) c.count.ensures)
-    (c.connector-1.ensures ∙ ap (λ k. get_or (asked_on s cs e.1 Left) k 0) c.count-1.ensures)
-    ∙ sym (matched_is s cs es c.requires.1 c.requires.2 e c.requires.0)
+    ∙ ap₂ s.matches (c.connector-right.ensures ∙ ap (λ k. get_or (asked_on s cs e.0 Right) k 0) c.count-nearer.ensures)
+    (c.connector-left.ensures ∙ ap (λ k. get_or (asked_on s cs e.1 Left) k 0) c.count-nearer-2.ensures)
+    ∙ sym (matched_is s cs es c.requires.1.0 c.requires.1.1 e c.requires.0)

@@ -1,4 +1,4 @@
-use Rattle.std.proofs.Common.{◌≡◌, ℕ, ◌<◌, Bool, sym, arith}
+use Rattle.std.proofs.Common.{ℕ, Bool, sym, arith}
 use Rattle.linkage.specs.Sentences.{position, size}
 use Rattle.rows.specs.Tables.{ledger_of, sentence_of}
 use Rattle.filing.specs.Filings.{there as is_there, chosen}

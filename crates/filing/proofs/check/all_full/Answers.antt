@@ -1,4 +1,4 @@
-use Rattle.std.proofs.Common.{◌≡◌, ℕ, ◌<◌, Bool, sym, arith}
+use Rattle.std.proofs.Common.{sym, arith}
 use Rattle.linkage.specs.Linkages.{full_at}
 use Rattle.linkage.specs.Sentences.{size}
 use Rattle.rows.specs.Tables.{ledger_of, sentence_of}
@@ -13,7 +13,7 @@ is_full-requires g c =
     let n = size_seen (g.D.Dictionary.meaning c.args.dictionary.now) (ledger_of c.args.rows.now) in
     let e = c.length-at-end.ensures in
     let h = c.loop-at-test.true in
-    (omega arith, c.requires.0, c.requires.1)
+    (omega arith, (c.requires.0, c.requires.1))
 
 pub returns-then-not-is_full : goal.returns-then-not-is_full
 returns-then-not-is_full g c =
