@@ -7,7 +7,7 @@ use Rattle.refusal.specs.declared.Refusal.TheVariants.{NoWords, ChoiceCount, NoC
 use Rattle.lexicon.specs.Lexicon.{Lexicon}
 use Rattle.lexicon.specs.Limits.{FewDisjuncts}
 use Rattle.linkage.specs.Ledgers.{Ledger, row_at, sentence}
-use Rattle.linkage.specs.Linkages.{crosses, full, matching, uncrossed}
+use Rattle.linkage.specs.Linkages.{Linkage, crosses, full, matching, uncrossed}
 use Rattle.linkage.specs.Lists.{every, range}
 use Rattle.linkage.specs.Parts.{heads, parts}
 use Rattle.linkage.specs.Sentences.{Position, Sentence, position, size}
@@ -25,6 +25,11 @@ judged_fails (t ∷ ts) us b r a h e =
     let p = and_parts t.0 (passed ts) h in
     ap (λ c. cond c (judged (ts ++ ((b, r) ∷ us)) a) (Err t.1)) p.0 ∙ judged_fails ts us b r a p.1 e
 
+-- One test more that passes.
+passed_more : (ts : List (Bool × Refusal)) (b : Bool) (r : Refusal) → passed ts ≡ true → b ≡ true → passed (ts ++ ((b, r) ∷ [])) ≡ true
+passed_more [] b r h e = and_from b true e refl
+passed_more (t ∷ ts) b r h e = let p = and_parts t.0 (passed ts) h in and_from t.0 _ p.0 (passed_more ts b r p.1 e)
+
 -- A filing over the words of a dictionary is judged right, since each word has few disjuncts.
 pub right : (lex : Lexicon) → FewDisjuncts lex → (g : Ledger) (cs : List ℕ) (es : List Wire) → JudgedRight (sentence lex g) cs es
 right lex few g = judged_right (sentence lex g) each
@@ -40,6 +45,9 @@ module _ (s : Sentence) (cs : List ℕ) (es : List Wire)
     (theres : every (λ i. is_there (position s i) (chosen cs i)) (range 0 (size s)) ≡ true)
     (allows : every (λ i. allowed (position s i) (chosen cs i)) (range 0 (size s)) ≡ true)
     (ends : every (rises (size s)) es ≡ true) (order : ordered es ≡ true) where
+  abbrev x : Linkage
+  x = filed (size s) cs es
+
   abbrev before : List (Bool × Refusal)
   before =
       (ltb 0 (size s), NoWords)
@@ -55,36 +63,28 @@ module _ (s : Sentence) (cs : List ℕ) (es : List Wire)
 
   pub crossing_fails : every (λ e. every (λ f. not (crosses e f)) es) es ≡ false → Err Crossing ≡ checked s cs es
   crossing_fails h =
-      let x = filed (size s) cs es in
       sym (judged_fails before ((full s x, LinkCount) ∷ (matching s x, NoMatch) ∷ []) (uncrossed x) Crossing (parts x) passed_before
       (uncrossed_is s cs es ends order ∙ h))
 
   module _ (apart : every (λ e. every (λ f. not (crosses e f)) es) es ≡ true) where
-    passed_apart : passed (before ++ ((uncrossed (filed (size s) cs es), Crossing) ∷ [])) ≡ true
-    passed_apart =
-        and_from _ _ some (and_from _ _ count (and_from _ _ theres (and_from _ _ allows (and_from _ _ ends (and_from _ _ order
-        (and_from _ true (uncrossed_is s cs es ends order ∙ apart) refl))))))
+    passed_apart : passed (before ++ ((uncrossed x, Crossing) ∷ [])) ≡ true
+    passed_apart = passed_more before (uncrossed x) Crossing passed_before (uncrossed_is s cs es ends order ∙ apart)
 
-    pub counts_fail : full s (filed (size s) cs es) ≡ false → Err LinkCount ≡ checked s cs es
+    pub counts_fail : full s x ≡ false → Err LinkCount ≡ checked s cs es
     counts_fail h =
-        let x = filed (size s) cs es in
         sym (judged_fails (before ++ ((uncrossed x, Crossing) ∷ [])) ((matching s x, NoMatch) ∷ []) (full s x) LinkCount (parts x) passed_apart h)
 
-    module _ (counts : full s (filed (size s) cs es) ≡ true) where
-      passed_counts : passed (before ++ ((uncrossed (filed (size s) cs es), Crossing) ∷ (full s (filed (size s) cs es), LinkCount) ∷ [])) ≡ true
-      passed_counts =
-          and_from _ _ some (and_from _ _ count (and_from _ _ theres (and_from _ _ allows (and_from _ _ ends (and_from _ _ order
-          (and_from _ _ (uncrossed_is s cs es ends order ∙ apart) (and_from _ true counts refl)))))))
+    module _ (counts : full s x ≡ true) where
+      abbrev before_match : List (Bool × Refusal)
+      before_match = before ++ ((uncrossed x, Crossing) ∷ (full s x, LinkCount) ∷ [])
 
-      pub match_fails : matching s (filed (size s) cs es) ≡ false → Err NoMatch ≡ checked s cs es
-      match_fails h =
-          let x = filed (size s) cs es in
-          sym (judged_fails (before ++ ((uncrossed x, Crossing) ∷ (full s x, LinkCount) ∷ [])) [] (matching s x) NoMatch (parts x) passed_counts h)
+      passed_counts : passed before_match ≡ true
+      passed_counts = passed_more (before ++ ((uncrossed x, Crossing) ∷ [])) (full s x) LinkCount passed_apart counts
 
-      pub each_passes : matching s (filed (size s) cs es) ≡ true → (p : ℕ) → p ≡ length (heads es (size s)) → Ok p ≡ checked s cs es
+      pub match_fails : matching s x ≡ false → Err NoMatch ≡ checked s cs es
+      match_fails h = sym (judged_fails before_match [] (matching s x) NoMatch (parts x) passed_counts h)
+
+      pub each_passes : matching s x ≡ true → (p : ℕ) → p ≡ length (heads es (size s)) → Ok p ≡ checked s cs es
       each_passes h p e =
-          let x = filed (size s) cs es in
-          sym (judged_passed (tests s cs es) (parts x)
-          (and_from _ _ some (and_from _ _ count (and_from _ _ theres (and_from _ _ allows (and_from _ _ ends (and_from _ _ order
-          (and_from _ _ (uncrossed_is s cs es ends order ∙ apart) (and_from _ _ counts (and_from _ true h refl)))))))))
+          sym (judged_passed (tests s cs es) (parts x) (passed_more before_match (matching s x) NoMatch passed_counts h)
           ∙ ap Ok (parts_are s cs es ends order ∙ sym e))
