@@ -1,5 +1,5 @@
 -- The dictionary of a chain, in which a set of words says what may follow each word.
-use Rattle.std.specs.Prelude.{◌≡◌, ℕ, ◌/◌, ◌%◌, ◌^◌, ◌≤◌, min, Bool, true, false, cond, ◌&&◌, List, [], ◌∷◌, length, Ok, Err, Result, ◌==◌, nat_lt, slice_index, refl}
+use Rattle.std.specs.Prelude.{◌≡◌, ℕ, ◌/◌, ◌%◌, ◌^◌, ◌≤◌, Bool, true, false, cond, ◌&&◌, List, [], ◌∷◌, length, Ok, Err, Result, ◌==◌, nat_lt, slice_index, refl}
 use Rattle.refusal.specs.declared.Refusal.{Refusal}
 use Rattle.refusal.specs.declared.Refusal.TheVariants.{ChainSize}
 use Rattle.lexicon.specs.declared.chain.Chain.{Chain}
@@ -23,17 +23,12 @@ four a =
     ∷ record { left = a ∷ []; right = a ∷ [] }
     ∷ []
 
--- The number of words. No `Chain` is made longer than 64, but since it holds a reference it cannot carry
--- the proof of that out of a `Result`: so the meaning leaves out what stands past the 64th set.
-abbrev pub size : List ℕ → ℕ
-size follow = min (length follow) 64
-
 -- A connector is the word that it belongs to, and on the right it matches the words that may follow.
 abbrev pub chain : List ℕ → Lexicon
 chain follow = record {
-  words = size follow;
-  disjuncts = λ a. cond (nat_lt a (size follow)) (four a) [];
-  matches = λ a b. nat_lt a (size follow) && (nat_lt b (size follow) && has (slice_index follow a) b);
+  words = length follow;
+  disjuncts = λ a. cond (nat_lt a (length follow)) (four a) [];
+  matches = λ a b. nat_lt a (length follow) && (nat_lt b (length follow) && has (slice_index follow a) b);
 }
 
 -- Where the word 1 alone may follow the word 0, and none may follow 1.

@@ -1,7 +1,4 @@
-ghost use Rattle.std.specs.Prelude.{◌≡◌, [], ◌∷◌, if◌then◌else◌};
-ghost use Rattle.lexicon.specs.Chains.{Chained, chain_of, size};
-ghost use Rattle.lexicon.specs.Kept.{few_words, none_past, few_disjuncts, short_lists, small_connectors};
-ghost use Rattle.lexicon.specs.Lexicon.{list_of};
+ghost use Rattle.std.specs.Prelude.{◌≡◌, ◌≤◌, [], ◌∷◌, length, if◌then◌else◌};
 
 use crate::dictionary::Dictionary;
 use crate::side::Side;
@@ -14,9 +11,14 @@ const LIMIT: usize = 64;
 #[derive(Clone, Copy)]
 pub struct Chain<'a> {
     follow: &'a [u64],
+    ghost some: { 1 ≤ length follow.now },
+    ghost few: { length follow.now ≤ 64 },
 }
 
 impl<'a> Chain<'a> {
+    ghost use Rattle.lexicon.specs.Chains.{Chained, chain_of};
+    ghost use Rattle.lexicon.specs.Lexicon.{list_of};
+
     /// The chain of as many words as there are sets: bit `b` of the set of `a` says whether `b` may follow `a`.
     pub fn new(follow: &'a [u64]) -> Result<Chain<'a>, Refusal>
         ensures { Chained follow.now result }
@@ -27,29 +29,25 @@ impl<'a> Chain<'a> {
         Ok(Chain { follow })
     }
 
-    /// The number of words.
-    fn size(&self) -> usize
-        ensures { result ≡ size self.now.follow.now }
-    {
-        self.follow.len().min(LIMIT)
-    }
-
     /// Whether a disjunct of a word has a connector on a side: it is then the word itself, alone.
     fn asks(&self, word: u16, disjunct: usize, side: Side) -> bool
         ensures { list_of (chain_of self.now) word disjunct side ≡ (if result then word ∷ [] else []) }
     {
-        usize::from(word) < self.size()
-            && match (disjunct, side) {
-                (1, Side::Right) | (2, Side::Left) | (3, _) => true,
-                _ => false,
-            }
+        usize::from(word) < self.words()
+            && matches!(
+                (disjunct, side),
+                (1, Side::Right) | (2, Side::Left) | (3, _)
+            )
     }
 }
 
 impl<'a> Dictionary for Chain<'a> {
+    ghost use Rattle.lexicon.specs.Chains.{chain_of};
+    ghost use Rattle.lexicon.specs.Kept.{few_words, none_past, few_disjuncts, short_lists, small_connectors};
+
     ghost meaning = { chain_of };
 
-    ghost few_words = { λ c. few_words c.follow.now };
+    ghost few_words = { λ c. few_words c.follow.now c.few };
 
     ghost none_past = { λ c. none_past c.follow.now };
 
@@ -57,14 +55,14 @@ impl<'a> Dictionary for Chain<'a> {
 
     ghost short_lists = { λ c. short_lists c.follow.now };
 
-    ghost small_connectors = { λ c. small_connectors c.follow.now };
+    ghost small_connectors = { λ c. small_connectors c.follow.now c.few };
 
     fn words(&self) -> usize {
-        self.size()
+        self.follow.len()
     }
 
     fn disjuncts(&self, word: u16) -> usize {
-        if usize::from(word) < self.size() {
+        if usize::from(word) < self.words() {
             4
         } else {
             0
@@ -72,11 +70,7 @@ impl<'a> Dictionary for Chain<'a> {
     }
 
     fn list_len(&self, word: u16, disjunct: usize, side: Side) -> usize {
-        if self.asks(word, disjunct, side) {
-            1
-        } else {
-            0
-        }
+        usize::from(self.asks(word, disjunct, side))
     }
 
     fn connector(&self, word: u16, disjunct: usize, side: Side, place: usize) -> u16 {
@@ -89,6 +83,6 @@ impl<'a> Dictionary for Chain<'a> {
 
     fn matches(&self, right: u16, left: u16) -> bool {
         let (a, b) = (usize::from(right), usize::from(left));
-        a < self.size() && b < self.size() && (self.follow[a] >> b) % 2 == 1
+        a < self.words() && b < self.words() && (self.follow[a] >> b) % 2 == 1
     }
 }

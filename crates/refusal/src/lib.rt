@@ -1,6 +1,6 @@
 //! Why the engine refuses an input: the one list of refusals, each with its number.
 //!
-//! - `fault`: a refusal with the line and the place where it came.
+//! - `fault`: a refusal with the place, or the line and the place, where it came.
 
 #![tactic(auto)]
 
