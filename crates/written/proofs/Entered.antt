@@ -13,7 +13,7 @@ use Rattle.formula.specs.Tokens.{Name}
 use Rattle.formula.specs.Ways.{Way}
 use Rattle.formula.proofs.Tables.{length_names}
 use Rattle.written.specs.Drafts.{Book, entered, with_words}
-use Rattle.written.specs.Faults.{of_line}
+use Rattle.refusal.specs.Faults.{of_line}
 use Rattle.written.specs.Lines.{any_known}
 use Rattle.written.specs.Model.{Entry}
 use Rattle.written.proofs.Finds.{words_of}

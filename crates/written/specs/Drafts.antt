@@ -2,15 +2,15 @@
 use Rattle.std.specs.Prelude.{◌≡◌, ℕ, suc, ◌+◌, ◌<◌, cond, ◌||◌, List, [], ◌∷◌, ◌++◌, map, length, Some, None, Ok, Err, Option, Result, nat_lt, slice_index_or}
 use Rattle.refusal.specs.declared.Refusal.TheVariants.{LineForm, WordTaken, TableShort}
 use Rattle.refusal.specs.declared.fault.Fault.{Fault}
-use Rattle.formula.specs.Faults.{carried, then}
+use Rattle.refusal.specs.Faults.{carried, in_text, of_line, then}
 use Rattle.formula.specs.Meaning.{meaning}
 use Rattle.formula.specs.Tokens.{Name}
 use Rattle.formula.specs.Ways.{Way}
 use Rattle.written.specs.declared.draft.Draft.{Draft}
-use Rattle.written.specs.declared.fault.LineFault.{LineFault}
+use Rattle.refusal.specs.declared.fault.LineFault.{LineFault}
 use Rattle.written.specs.declared.page.Page.{Page}
 use Rattle.written.specs.Costs.{line_cost}
-use Rattle.written.specs.Faults.{of_formula, of_line, in_text}
+use Rattle.written.specs.Faults.{of_formula}
 use Rattle.written.specs.Lines.{any_known, formula_part, good_line, line_words}
 use Rattle.written.specs.Model.{Entry, Named, fresh, mentioned}
 use Rattle.written.specs.Pages.{limit, page_store, store, taken}

@@ -7,7 +7,6 @@
 //! - `fresh`, `note`: the names that a line brings.
 //! - `cost`: how many cells a line takes.
 //! - `matching`: which names of connectors match.
-//! - `fault`: a refusal with its place in a line.
 //! - `draft`, `closed`: a draft, and the dictionary that closing makes of it.
 
 #![tactic(auto)]
@@ -16,7 +15,6 @@ mod cells;
 pub mod closed;
 mod cost;
 pub mod draft;
-pub mod fault;
 mod fresh;
 mod knows;
 pub mod line;

@@ -1,28 +1,15 @@
 ghost use Rattle.std.specs.Prelude.{◌≡◌, length};
-ghost use Rattle.formula.specs.Faults.{carried};
 ghost use Rattle.written.specs.Drafts.{LeftBehind, OneNumber, answered, book, cells_of, drafted, empty_book, lined};
-ghost use Rattle.written.specs.Faults.{of_line as of_whole};
 ghost use Rattle.written.specs.Meaning.{written};
 ghost use Rattle.written.specs.Model.{find};
 ghost use Rattle.written.specs.Store.{model};
 
 use crate::closed::Written;
 use crate::draft::Draft;
-use crate::fault::LineFault;
 use crate::line::split;
 use crate::page::Page;
 use formula::meaning::meaning;
-use refusal::Refusal;
-
-/// A refusal of the line as a whole, which has no place in its formula.
-fn of_line<T>(found: Result<T, Refusal>) -> Result<T, LineFault>
-    ensures { result ≡ carried of_whole found }
-{
-    match found {
-        Ok(x) => Ok(x),
-        Err(refusal) => Err(LineFault { place: 0, refusal }),
-    }
-}
+use refusal::fault::LineFault;
 
 impl<'t> Draft<'t> {
     /// A draft without lines, over a lent table of which it may use at most the first 65,535 cells.
@@ -46,8 +33,11 @@ impl<'t> Draft<'t> {
         ensures numbers { OneNumber (model (drafted self.new)).names }
         ensures cells { cells_of self.new ≡ cells_of self.old }
     {
-        let parts = of_line(split(line))?;
-        let disjuncts = meaning(parts.formula)?;
+        let parts = split(line)?;
+        let disjuncts = meaning(parts.formula).map_err(|e| LineFault {
+            place: e.place,
+            refusal: e.refusal,
+        })?;
         self.page.enter(parts.words, parts.formula, &disjuncts)
     }
 

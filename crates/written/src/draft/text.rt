@@ -1,30 +1,13 @@
 ghost use Rattle.std.specs.Prelude.{◌≡◌, List, ◌++◌};
 ghost use Rattle.std.specs.Result.{result_err};
-ghost use Rattle.formula.specs.Faults.{carried};
 ghost use Rattle.written.specs.Drafts.{OneNumber, book, cells_of, drafted, texted};
-ghost use Rattle.written.specs.Faults.{in_text as placed};
 ghost use Rattle.written.specs.Lines.{lines};
 ghost use Rattle.written.specs.Model.{Named};
 ghost use Rattle.written.specs.Store.{model};
 
 use crate::draft::Draft;
-use crate::fault::LineFault;
 use crate::pieces::piece_end;
 use refusal::fault::Fault;
-
-/// A line's fault, with the line's number in the text.
-fn in_text(line: usize, taken: Result<(), LineFault>) -> Result<(), Fault>
-    ensures { result ≡ carried (placed line) taken }
-{
-    match taken {
-        Ok(()) => Ok(()),
-        Err(e) => Err(Fault {
-            line,
-            place: e.place,
-            refusal: e.refusal,
-        }),
-    }
-}
 
 impl<'t> Draft<'t> {
     /// Takes a text line by line, up to the first that is refused; the lines before it stand.
@@ -38,7 +21,11 @@ impl<'t> Draft<'t> {
         let mut before = 0;
         while from < text.len() {
             let end = piece_end(text, from, b'\n');
-            in_text(before + 1, self.line(&text[from..end]))?;
+            self.line(&text[from..end]).map_err(|e| Fault {
+                line: before + 1,
+                place: e.place,
+                refusal: e.refusal,
+            })?;
             from = end + 1;
             before += 1;
         }

@@ -10,7 +10,6 @@ ghost use Rattle.written.specs.Pages.{limit, page_store, taken};
 ghost use Rattle.written.specs.Store.{Whole};
 
 use crate::cost::cost;
-use crate::fault::LineFault;
 use crate::fresh::Fresh;
 use crate::knows::knows_any;
 use crate::line::{repeats, word_count};
@@ -19,6 +18,7 @@ use crate::page::Page;
 use crate::page::write::LIMIT;
 use formula::disjuncts::Disjuncts;
 use refusal::Refusal;
+use refusal::fault::LineFault;
 
 /// A draft has at most so many words.
 const MOST_WORDS: usize = 256;
@@ -72,23 +72,14 @@ impl<'t> Page<'t> {
         ensures whole { ∥ Whole (page_store self.new) ∥₁ }
     {
         if self.knows(words) || repeats(words) {
-            return Err(LineFault {
-                place: 0,
-                refusal: Refusal::WordTaken,
-            });
+            return Err(Refusal::WordTaken.into());
         }
         if word_count(words) > MOST_WORDS - self.words {
-            return Err(LineFault {
-                place: 0,
-                refusal: Refusal::TableShort,
-            });
+            return Err(Refusal::TableShort.into());
         }
         let fresh = self.unmet(formula, disjuncts);
         if cost(words, formula, disjuncts, &fresh) > self.room() {
-            return Err(LineFault {
-                place: 0,
-                refusal: Refusal::TableShort,
-            });
+            return Err(Refusal::TableShort.into());
         }
         self.write_line(words, formula, disjuncts, &fresh);
         Ok(())

@@ -1,14 +1,14 @@
-use Rattle.std.proofs.Common.{◌≡◌, ℕ, suc, ◌+◌, ◌<◌, ◌≤◌, List, ◌∷◌, ◌++◌, length, get_or, take, drop, Some, Ok, Err, Result, sym, ap, ◌∙◌, append_assoc, add-one, arith}
+use Rattle.std.proofs.Common.{◌≡◌, ℕ, suc, ◌+◌, ◌<◌, ◌≤◌, List, ◌∷◌, ◌++◌, length, get_or, take, drop, Some, Ok, Err, Result, sym, ap, ◌∙◌, append_assoc, add-one, arith, rules}
 use Rattle.std.specs.List.{between}
 use Rattle.std.proofs.lemmas.Result.{err_from_is_err_and}
 use Rattle.std.specs.Result.{result_err}
 use Rattle.refusal.specs.declared.fault.Fault.{Fault}
-use Rattle.formula.specs.Faults.{carried}
+use Rattle.refusal.specs.Faults.{carried}
 use Rattle.written.specs.declared.draft.Draft.{Draft}
-use Rattle.written.specs.declared.fault.LineFault.{LineFault}
+use Rattle.refusal.specs.declared.fault.LineFault.{LineFault}
 use Rattle.written.specs.declared.page.Page.{Page}
 use Rattle.written.specs.Drafts.{Book, LeftBehind, OneNumber, SamePage, answered, book, book_of, cells_of, drafted, lined, next_line, texted}
-use Rattle.written.specs.Faults.{in_text}
+use Rattle.refusal.specs.Faults.{in_text}
 use Rattle.written.specs.Kept.{whole_known}
 use Rattle.written.specs.Lines.{lines}
 use Rattle.written.specs.Model.{Named}
@@ -59,28 +59,6 @@ next_line_is : (text : List ℕ) (from end : ℕ) → from < length text → (fr
     lines (drop from text) ≡ between from end text ∷ lines (drop (end + 1) text)
 next_line_is text from end h (a, b) clear stops = lines_step text from end h a b clear stops
 
-pub returns-in_err-in_text : goal.returns-in_err-in_text
-returns-in_err-in_text c =
-    let d = c.args.self.now
-    in let was = c.loop-from.self
-    in let now-d = c.line.new.self
-    in let text = c.args.text.now
-    in let p = err_from_is_err_and c.from_residual.result c.from_residual.ensures.1
-    in let y = c.in_err-in_text.field-0.0
-    in let carry = sym c.in_text.ensures ∙ c.in_err-in_text.was
-    in let same = left_same was.page now-d.page (c.loop-from.before + 1) c.line.result y c.line.ensures.left carry
-    in let eq = same_book was now-d same
-    in let cut = next_line_is text c.loop-from.from c.piece_end-end.result c.loop-from-test.true c.piece_end-end.ensures.within c.piece_end-end.ensures.clear c.piece_end-end.ensures.stops
-    in record {
-      answer = c.loop-from.invariant.2 ∙ ap (texted (cells_of was) (c.loop-from.before + 1) (book was)) cut
-          ∙ line_refused (cells_of was) (c.loop-from.before + 1) (book was) (book now-d) (between c.loop-from.from c.piece_end-end.result text) (lines (drop (c.piece_end-end.result + 1) text)) c.line.result y c.line.ensures.answer carry
-          ∙ ap (λ (b : Book). record { book = b; fault = Some y }) eq
-          ∙ ap (λ (r : Result Unit Fault). record { book = book now-d; fault = result_err r }) (sym (p.1 ∙ ap Err p.2));
-      kept = (c.loop-from.invariant.3.0, (λ i. names_from 0 (take (same.1 i) (same.0 i))) ∙ c.loop-from.invariant.3.1);
-      numbers = sound_numbers now-d;
-      cells = c.line.ensures.cells ∙ c.loop-from.invariant.1;
-    }
-
 pub loop-from-preserved : goal.loop-from-preserved
 unfolding page_store
 loop-from-preserved c =
@@ -89,14 +67,14 @@ loop-from-preserved c =
     in let now-d = c.line.new.self
     in let text = c.args.text.now
     in let end = c.piece_end-end.result
-    in let carry = sym c.in_text.ensures ∙ c.in_ok-in_text.was
+    in let carry : carried (in_text (c.loop-from.before + 1)) c.line.result ≡ Ok c.in_ok-map_err.field-0 = search rules
     in let cut = next_line_is text c.loop-from.from end c.loop-from-test.true c.piece_end-end.ensures.within c.piece_end-end.ensures.clear c.piece_end-end.ensures.stops
-    in let more = left_more was.page now-d.page (c.loop-from.before + 1) c.line.result c.in_ok-in_text.field-0 c.line.ensures.left carry
+    in let more = left_more was.page now-d.page (c.loop-from.before + 1) c.line.result c.in_ok-map_err.field-0 c.line.ensures.left carry
     in (
       omega (arith, c.loop-from.invariant.0, c.piece_end-end.ensures.within.0),
       c.line.ensures.cells ∙ c.loop-from.invariant.1,
       c.loop-from.invariant.2 ∙ ap (texted (cells_of was) (c.loop-from.before + 1) (book was)) cut
-          ∙ line_taken (cells_of was) (c.loop-from.before + 1) (book was) (book now-d) (between c.loop-from.from end text) (lines (drop (end + 1) text)) c.line.result c.in_ok-in_text.field-0 c.line.ensures.answer carry
+          ∙ line_taken (cells_of was) (c.loop-from.before + 1) (book was) (book now-d) (between c.loop-from.from end text) (lines (drop (end + 1) text)) c.line.result c.in_ok-map_err.field-0 c.line.ensures.answer carry
           ∙ ap (λ n. texted (cells_of was) n (book now-d) (lines (drop (end + 1) text))) (sym (add-one (c.loop-from.before + 1)))
           ∙ ap (λ n. texted n (c.loop-from.before + 1 + 1) (book now-d) (lines (drop (end + 1) text))) (sym c.line.ensures.cells),
       (
@@ -116,3 +94,25 @@ returns c =
       numbers = sound_numbers c.loop-from.self;
       cells = c.loop-from.invariant.1;
     }
+pub returns-in_err-map_err : goal.returns-in_err-map_err
+returns-in_err-map_err c =
+    let d = c.args.self.now
+    in let was = c.loop-from.self
+    in let now-d = c.line.new.self
+    in let text = c.args.text.now
+    in let p = err_from_is_err_and c.from_residual.result c.from_residual.ensures.1
+    in let y = c.in_err-map_err.field-0.0
+    in let carry : carried (in_text (c.loop-from.before + 1)) c.line.result ≡ Err y = search rules
+    in let same = left_same was.page now-d.page (c.loop-from.before + 1) c.line.result y c.line.ensures.left carry
+    in let eq = same_book was now-d same
+    in let cut = next_line_is text c.loop-from.from c.piece_end-end.result c.loop-from-test.true c.piece_end-end.ensures.within c.piece_end-end.ensures.clear c.piece_end-end.ensures.stops
+    in record {
+      answer = c.loop-from.invariant.2 ∙ ap (texted (cells_of was) (c.loop-from.before + 1) (book was)) cut
+          ∙ line_refused (cells_of was) (c.loop-from.before + 1) (book was) (book now-d) (between c.loop-from.from c.piece_end-end.result text) (lines (drop (c.piece_end-end.result + 1) text)) c.line.result y c.line.ensures.answer carry
+          ∙ ap (λ (b : Book). record { book = b; fault = Some y }) eq
+          ∙ ap (λ (r : Result Unit Fault). record { book = book now-d; fault = result_err r }) (sym (p.1 ∙ ap Err p.2));
+      kept = (c.loop-from.invariant.3.0, (λ i. names_from 0 (take (same.1 i) (same.0 i))) ∙ c.loop-from.invariant.3.1);
+      numbers = sound_numbers now-d;
+      cells = c.line.ensures.cells ∙ c.loop-from.invariant.1;
+    }
+

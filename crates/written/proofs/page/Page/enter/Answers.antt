@@ -1,4 +1,4 @@
-use Rattle.std.proofs.Common.{◌≡◌, ℕ, ◌+◌, ◌<◌, ◌≤◌, Bool, true, false, ◌||◌, List, [], length, get_or, Ok, sym, refl, ap, ◌∙◌, subst, arith, length-take-le}
+use Rattle.std.proofs.Common.{◌≡◌, ℕ, ◌+◌, ◌<◌, ◌≤◌, Bool, true, false, ◌||◌, List, [], length, get_or, Ok, Err, sym, refl, ap, ◌∙◌, subst, arith, length-take-le}
 use Rattle.lexicon.specs.Lexicon.{Disjunct, free, side_of}
 use Rattle.lexicon.specs.declared.side.Side.{Side}
 use Rattle.formula.specs.Shown.{disjuncts_of}
@@ -44,8 +44,8 @@ front_length p h = length-take-le p.used p.table.now h
 same_book : (b c : Book) → b.entries ≡ c.entries → b.names ≡ c.names → b.spent ≡ c.spent → b ≡ c
 same_book b c e n s = λ i. record { entries = e i; names = n i; spent = s i }
 
-pub returns-then-knows : goal.returns-then-knows
-returns-then-knows c =
+pub returns-then-knows-clause-answer : goal.returns-then-knows-clause-answer
+returns-then-knows-clause-answer c =
     let b = page_book c.args.self.now
     in let ws = pieces 32 c.args.words.now
     in let known : any_known (words_of b.entries) ws ≡ true = elim c.then-knows.branch [
@@ -53,29 +53,16 @@ returns-then-knows c =
       | then-knows-via-else-knows+then-repeats w ↦
           any_known_split (words_of b.entries) ws ∙ ap (λ u. some_among (words_of b.entries) ws || u) (sym w.if-repeats.ensures) ∙ or_true (some_among (words_of b.entries) ws)
     ]
-    in record {
-      answer = is_taken (limit c.args.self.now.table.now) b ws (disjuncts_of c.args.formula.now c.args.disjuncts.now) known;
-      left = (refl, refl, refl);
-      len = refl;
-      roomy = c.requires.roomy;
-      few = c.requires.few;
-      whole = c.requires.whole;
-    }
+    in is_taken (limit c.args.self.now.table.now) b ws (disjuncts_of c.args.formula.now c.args.disjuncts.now) known ∙ ap Err (sym c.into.ensures)
 
-pub returns-then-word_count-self : goal.returns-then-word_count-self
-returns-then-word_count-self c =
+pub returns-then-word_count-self-clause-answer : goal.returns-then-word_count-self-clause-answer
+returns-then-word_count-self-clause-answer c =
     let b = page_book c.args.self.now
     in let ws = pieces 32 c.args.words.now
     in let n = entry_count c.args.self.now
-    in record {
-      answer = is_many (limit c.args.self.now.table.now) b ws (disjuncts_of c.args.formula.now c.args.disjuncts.now)
-          (known_by b ws false false c.if-knows.ensures c.if-repeats.ensures) (omega (arith, c.word_count.ensures, c.if-word_count-self.true));
-      left = (refl, refl, refl);
-      len = refl;
-      roomy = c.requires.roomy;
-      few = c.requires.few;
-      whole = c.requires.whole;
-    }
+    in is_many (limit c.args.self.now.table.now) b ws (disjuncts_of c.args.formula.now c.args.disjuncts.now)
+    (known_by b ws false false c.if-knows.ensures c.if-repeats.ensures) (omega (arith, c.word_count.ensures, c.if-word_count-self.true))
+    ∙ ap Err (sym c.into-then-word_count-self.ensures)
 
 -- The names that a line brings are good.
 module _ (ds : List (Disjunct Name)) (short : (k i : ℕ) (s : Side) → length (get_or (side_of (get_or ds k free) s) i []) ≤ 8)
@@ -97,21 +84,15 @@ cost-requires c =
       names = λ i. subst (λ (ns : List Name). length (get_or ns i []) ≤ 8) (sym c.unmet-fresh.ensures) (good i).0;
     }
 
-pub returns-then-cost-room : goal.returns-then-cost-room
-returns-then-cost-room c =
+pub returns-then-cost-room-clause-answer : goal.returns-then-cost-room-clause-answer
+returns-then-cost-room-clause-answer c =
     let b = page_book c.args.self.now
     in let ws = pieces 32 c.args.words.now
     in let ds = disjuncts_of c.args.formula.now c.args.disjuncts.now
     in let e : c.cost.result ≡ line_cost ws ds (fresh b.names (mentioned ds)) = c.cost.ensures ∙ ap (line_cost ws ds) c.unmet-fresh.ensures
-    in record {
-      answer = is_dear (limit c.args.self.now.table.now) b ws ds
-          (known_by b ws false false c.if-knows.ensures c.if-repeats.ensures) (omega (arith, e, c.room.ensures, c.if-cost-room.true));
-      left = (refl, refl, refl);
-      len = refl;
-      roomy = c.requires.roomy;
-      few = c.requires.few;
-      whole = c.requires.whole;
-    }
+    in is_dear (limit c.args.self.now.table.now) b ws ds
+    (known_by b ws false false c.if-knows.ensures c.if-repeats.ensures) (omega (arith, e, c.room.ensures, c.if-cost-room.true))
+    ∙ ap Err (sym c.into-then-cost-room.ensures)
 
 pub write_line-requires : goal.write_line-requires
 write_line-requires c =
