@@ -17,7 +17,9 @@ pub mod Names
 pub mod Noted
 pub mod Numbers
 pub mod Renamed
+pub mod Splits
 pub mod Stored
 pub mod Told
 pub mod Worded
+pub mod Twice
 pub mod Words

@@ -1,13 +1,20 @@
-ghost use Rattle.std.specs.Prelude.{◌≡◌, List, ◌++◌};
+ghost use Rattle.std.specs.Prelude.{◌≡◌, ◌<◌, List, ◌++◌, length};
 ghost use Rattle.std.specs.Result.{result_err};
 ghost use Rattle.written.specs.Drafts.{OneNumber, book, cells_of, drafted, texted};
-ghost use Rattle.written.specs.Lines.{lines};
+ghost use Rattle.written.specs.Lines.{lines, pieces};
 ghost use Rattle.written.specs.Model.{Named};
 ghost use Rattle.written.specs.Store.{model};
 
 use crate::draft::Draft;
-use crate::pieces::piece_end;
 use refusal::fault::Fault;
+
+/// A text without the line feed that ends its last line.
+fn unended(text: &[u8]) -> &[u8]
+    requires { 0 < length text.now }
+    ensures { pieces 10 result.now ≡ lines text.now }
+{
+    text.strip_suffix(b"\n").unwrap_or(text)
+}
 
 impl<'t> Draft<'t> {
     /// Takes a text line by line, up to the first that is refused; the lines before it stand.
@@ -17,17 +24,16 @@ impl<'t> Draft<'t> {
         ensures numbers { OneNumber (model (drafted self.new)).names }
         ensures cells { cells_of self.new ≡ cells_of self.old }
     {
-        let mut from = 0;
-        let mut before = 0;
-        while from < text.len() {
-            let end = piece_end(text, from, b'\n');
-            self.line(&text[from..end]).map_err(|e| Fault {
+        if text.is_empty() {
+            return Ok(());
+        }
+        let lines = unended(text).split(|b| *b == b'\n');
+        for (before, line) in lines.enumerate() {
+            self.line(line).map_err(|e| Fault {
                 line: before + 1,
                 place: e.place,
                 refusal: e.refusal,
             })?;
-            from = end + 1;
-            before += 1;
         }
         Ok(())
     }

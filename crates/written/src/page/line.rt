@@ -10,7 +10,6 @@ ghost use Rattle.written.specs.Store.{WholeNames, all_name_cells, block_cells, c
 use crate::cells::number;
 use crate::fresh::Fresh;
 use crate::page::Page;
-use crate::pieces::piece_end;
 use formula::disjuncts::Disjuncts;
 use formula::name::name_at;
 use formula::names::Names;
@@ -132,7 +131,7 @@ impl<'t> Page<'t> {
     /// Writes a word and its row.
     fn write_word(&mut self, word: &[u8], block: usize)
         requires room { (taken self.old.used self.old.words + length word.now + 4 ≤ limit self.old.table.now) × (block ≤ self.old.used) }
-        ensures store { page_store self.new ≡ with_row (with_cells (page_store self.old) word.entry.now) (record { word = self.old.used; length_of = length word.entry.now; block = block }) }
+        ensures store { page_store self.new ≡ with_row (with_cells (page_store self.old) word.now) (record { word = self.old.used; length_of = length word.now; block = block }) }
         ensures len { length self.new.table.now ≡ length self.old.table.now }
         ensures used { self.new.used ≡ self.old.used + length word.now }
         ensures words { self.new.words ≡ self.old.words + 1 }
@@ -150,11 +149,8 @@ impl<'t> Page<'t> {
         ensures used { self.new.used ≡ self.old.used + length (word_cells (pieces 32 words.now)) }
         ensures words { self.new.words ≡ self.old.words + length (pieces 32 words.now) }
     {
-        let mut from = 0;
-        while from <= words.len() {
-            let end = piece_end(words, from, b' ');
-            self.write_word(&words[from..end], block);
-            from = end + 1;
+        for word in words.split(|b| *b == b' ') {
+            self.write_word(word, block);
         }
     }
 

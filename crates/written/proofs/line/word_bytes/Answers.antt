@@ -1,9 +1,8 @@
-use Rattle.std.proofs.Common.{arith}
-use Rattle.written.proofs.Words.{bytes_counted}
+use Rattle.std.proofs.Common.{count_by, rules, not, eqb, ◌≡◌, ◌∙◌}
+use Rattle.written.proofs.Splits.{bytes_unmarked}
 use Rattle.written.proofs.line.word_bytes.Goals as goal
 
-pub overflow_sub-result : goal.overflow_sub-result
-overflow_sub-result c = let e = bytes_counted 32 c.args.words.now in omega arith
-
 pub returns : goal.returns
-returns c = let e = bytes_counted 32 c.args.words.now in omega arith
+returns c =
+    let n : c.count.result ≡ count_by (λ b. not (eqb b 32)) c.args.words.now = search rules in
+    n ∙ bytes_unmarked 32 c.args.words.now

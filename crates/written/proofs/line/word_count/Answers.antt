@@ -1,11 +1,9 @@
-use Rattle.std.proofs.Common.{length, ap, arith}
-use Rattle.written.proofs.Cuts.{pieces_first, pieces_none}
+use Rattle.std.proofs.Common.{rules, tests}
+use Rattle.std.proofs.lemmas.Iterator.Consumers.{count_from_yields_List}
+use Rattle.written.proofs.Splits.{yields_pieces}
 use Rattle.written.proofs.line.word_count.Goals as goal
-
-pub loop-from-init : goal.loop-from-init
-loop-from-init c = let e = ap length (pieces_first 32 c.args.words.now) in (omega arith, omega arith, omega arith)
 
 pub returns : goal.returns
 returns c =
-    let e = ap length (pieces_none 32 c.args.words.now c.loop-from.from c.loop-from-test.false) in
-    omega (arith, c.loop-from.invariant.2)
+    let e = c.split.ensures in
+    count_from_yields_List c.split.result _ c.count.ensures.ran (yields_pieces _ 32 c.args.words.now e.rest e.done e.closure (λ x b q k. search (rules, tests)))

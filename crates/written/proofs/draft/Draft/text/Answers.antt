@@ -1,24 +1,24 @@
-use Rattle.std.proofs.Common.{◌≡◌, ℕ, suc, ◌+◌, ◌<◌, ◌≤◌, List, ◌∷◌, ◌++◌, length, get_or, take, drop, Some, Ok, Err, Result, sym, ap, ◌∙◌, append_assoc, add-one, arith, rules}
-use Rattle.std.specs.List.{between}
-use Rattle.std.proofs.lemmas.Result.{err_from_is_err_and}
+use Rattle.std.proofs.Common.{◌≡◌, ℕ, suc, ◌+◌, List, ◌∷◌, [], ◌++◌, length, drop, Some, None, Ok, Err, Result, refl, subst, sym, ap, ◌∙◌, append_assoc, add-one, arith, rules, tests}
 use Rattle.std.specs.Result.{result_err}
+use Rattle.std.proofs.lemmas.Iterator.Consumers.{YieldsList-at, YieldsList-from_enumerate, YieldsList-turn, YieldsList-end}
+use Rattle.std.proofs.lemmas.Result.{err_from_is_err_and}
+use Rattle.std.proofs.lemmas.Bool.{eqb-true}
+use Rattle.std.proofs.lemmas.List.{drop_all, length_push}
+use Rattle.std.proofs.lemmas.List.FromFn.{length-enumerate_from}
 use Rattle.refusal.specs.declared.fault.Fault.{Fault}
-use Rattle.refusal.specs.Faults.{carried}
-use Rattle.written.specs.declared.draft.Draft.{Draft}
 use Rattle.refusal.specs.declared.fault.LineFault.{LineFault}
+use Rattle.refusal.specs.Faults.{carried, in_text}
+use Rattle.written.specs.declared.draft.Draft.{Draft}
 use Rattle.written.specs.declared.page.Page.{Page}
 use Rattle.written.specs.Drafts.{Book, LeftBehind, OneNumber, SamePage, answered, book, book_of, cells_of, drafted, lined, next_line, texted}
-use Rattle.refusal.specs.Faults.{in_text}
 use Rattle.written.specs.Kept.{whole_known}
-use Rattle.written.specs.Lines.{lines}
+use Rattle.written.specs.Lines.{lines, pieces}
 use Rattle.written.specs.Model.{Named}
 use Rattle.written.specs.Pages.{page_store, store, taken}
-use Rattle.written.specs.Store.{model, names_from}
-use Rattle.written.proofs.Cuts.{lines_step, lines_none}
+use Rattle.written.specs.Store.{model}
 use Rattle.written.proofs.Numbers.{one_number}
+use Rattle.written.proofs.Splits.{numbered_here, yields_pieces}
 use Rattle.written.proofs.draft.Draft.text.Goals as goal
-
--- One line of a text, by what became of it.
 
 -- One line of a text, by what became of it.
 module _ (lim k : ℕ) (b after : Book) (line : List ℕ) (ls : List (List ℕ)) where
@@ -53,66 +53,78 @@ same_book d e (t, u, w) =
 sound_numbers : (d : Draft) → OneNumber (model (drafted d)).names
 sound_numbers d = one_number (drafted d) (whole_known (drafted d) d.whole)
 
--- The line that a text goes on with.
-next_line_is : (text : List ℕ) (from end : ℕ) → from < length text → (from ≤ end) × (end ≤ length text) →
-    ((k : ℕ) → from ≤ k → k < end → get_or text k 0 ≡ 10 → ⊥) → (end < length text → get_or text end 0 ≡ 10) →
-    lines (drop from text) ≡ between from end text ∷ lines (drop (end + 1) text)
-next_line_is text from end h (a, b) clear stops = lines_step text from end h a b clear stops
+no_lines : (lim : ℕ) (b : Book) (text : List ℕ) → length text ≡ 0 → texted lim 1 b (lines text) ≡ record { book = b; fault = None }
+unfolding texted lines
+no_lines lim b [] h = refl
+no_lines lim b (x ∷ text) h = absurd (omega arith)
 
-pub loop-from-preserved : goal.loop-from-preserved
+pub returns-then-is_empty-clause-answer : goal.returns-then-is_empty-clause-answer
+returns-then-is_empty-clause-answer c =
+    let d = c.args.self.now in
+    no_lines (cells_of d) (book d) c.args.text.now (eqb-true (length c.args.text.now) 0 (sym c.if-is_empty.ensures))
+
+pub returns-then-is_empty-clause-numbers : goal.returns-then-is_empty-clause-numbers
+returns-then-is_empty-clause-numbers c = sound_numbers c.args.self.now
+
+pub loop-before-preserved : goal.loop-before-preserved
 unfolding page_store
-loop-from-preserved c =
-    let d = c.args.self.now
-    in let was = c.loop-from.self
-    in let now-d = c.line.new.self
-    in let text = c.args.text.now
-    in let end = c.piece_end-end.result
-    in let carry : carried (in_text (c.loop-from.before + 1)) c.line.result ≡ Ok c.in_ok-map_err.field-0 = search rules
-    in let cut = next_line_is text c.loop-from.from end c.loop-from-test.true c.piece_end-end.ensures.within c.piece_end-end.ensures.clear c.piece_end-end.ensures.stops
-    in let more = left_more was.page now-d.page (c.loop-from.before + 1) c.line.result c.in_ok-map_err.field-0 c.line.ensures.left carry
-    in (
-      omega (arith, c.loop-from.invariant.0, c.piece_end-end.ensures.within.0),
-      c.line.ensures.cells ∙ c.loop-from.invariant.1,
-      c.loop-from.invariant.2 ∙ ap (texted (cells_of was) (c.loop-from.before + 1) (book was)) cut
-          ∙ line_taken (cells_of was) (c.loop-from.before + 1) (book was) (book now-d) (between c.loop-from.from end text) (lines (drop (end + 1) text)) c.line.result c.in_ok-map_err.field-0 c.line.ensures.answer carry
-          ∙ ap (λ n. texted (cells_of was) n (book now-d) (lines (drop (end + 1) text))) (sym (add-one (c.loop-from.before + 1)))
-          ∙ ap (λ n. texted n (c.loop-from.before + 1 + 1) (book now-d) (lines (drop (end + 1) text))) (sym c.line.ensures.cells),
-      (
-        c.loop-from.invariant.3.0 ++ more.0,
-        more.1 ∙ ap (λ ns. ns ++ more.0) c.loop-from.invariant.3.1 ∙ append_assoc (model (drafted d)).names c.loop-from.invariant.3.0 more.0,
-      ),
+loop-before-preserved c =
+    let w = c.in-Some.line.now in
+    let n = length c.loop-before.yielded in
+    let ps = pieces 10 c.unended.result.now in
+    let ls = lines c.args.text.now in
+    let t = numbered_here ps n c.in-Some.before w (YieldsList-turn (YieldsList-from_enumerate (YieldsList-at {t = c.split-lines.result} (cc) (yields_pieces _ 10 c.unended.result.now (cc) (cc) (cc) (λ x b q k. search (rules, tests)))) (cc)) c.loop-before.yielded _ c.loop-before.yielded_by _ _ (c.in-Some.before, c.in-Some.line) c.in-Some.is c.next.ensures.steps) in
+    let was = c.loop-before.self in
+    let now-d = c.line.new.self in
+    let carried-here : carried (in_text (c.in-Some.before + 1)) c.line.result ≡ Ok c.in_ok-map_err.field-0 = search rules in
+    let carry = subst (λ m. carried (in_text (m + 1)) c.line.result ≡ Ok c.in_ok-map_err.field-0) t.0 carried-here in
+    let same : ps ≡ ls = c.unended.ensures in
+    let more = left_more was.page now-d.page (n + 1) c.line.result c.in_ok-map_err.field-0 c.line.ensures.left carry in
+    let inv = c.loop-before.invariant in
+    rw length_push (
+      c.line.ensures.cells ∙ inv.0,
+      inv.1
+          ∙ ap (λ qs. texted (cells_of was) (n + 1) (book was) (drop n qs)) (sym same)
+          ∙ ap (texted (cells_of was) (n + 1) (book was)) t.1
+          ∙ line_taken (cells_of was) (n + 1) (book was) (book now-d) w (drop (n + 1) ps) c.line.result c.in_ok-map_err.field-0 c.line.ensures.answer carry
+          ∙ ap (λ m. texted (cells_of was) m (book now-d) (drop (n + 1) ps)) (sym (add-one (n + 1)))
+          ∙ ap (λ m. texted m (n + 1 + 1) (book now-d) (drop (n + 1) ps)) (sym c.line.ensures.cells)
+          ∙ ap (λ qs. texted (cells_of now-d) (n + 1 + 1) (book now-d) (drop (n + 1) qs)) same,
+      (inv.2.0 ++ more.0, more.1 ∙ ap (λ ns. ns ++ more.0) inv.2.1 ∙ append_assoc (model (drafted c.args.self.now)).names inv.2.0 more.0),
     )
 
-pub returns : goal.returns
-unfolding texted
-returns c =
-    let text = c.args.text.now
-    in record {
-      answer = c.loop-from.invariant.2
-          ∙ ap (texted (cells_of c.loop-from.self) (c.loop-from.before + 1) (book c.loop-from.self)) (lines_none text c.loop-from.from c.loop-from-test.false);
-      kept = c.loop-from.invariant.3;
-      numbers = sound_numbers c.loop-from.self;
-      cells = c.loop-from.invariant.1;
-    }
-pub returns-in_err-map_err : goal.returns-in_err-map_err
-returns-in_err-map_err c =
-    let d = c.args.self.now
-    in let was = c.loop-from.self
-    in let now-d = c.line.new.self
-    in let text = c.args.text.now
-    in let p = err_from_is_err_and c.from_residual.result c.from_residual.ensures.1
-    in let y = c.in_err-map_err.field-0.0
-    in let carry : carried (in_text (c.loop-from.before + 1)) c.line.result ≡ Err y = search rules
-    in let same = left_same was.page now-d.page (c.loop-from.before + 1) c.line.result y c.line.ensures.left carry
-    in let eq = same_book was now-d same
-    in let cut = next_line_is text c.loop-from.from c.piece_end-end.result c.loop-from-test.true c.piece_end-end.ensures.within c.piece_end-end.ensures.clear c.piece_end-end.ensures.stops
-    in record {
-      answer = c.loop-from.invariant.2 ∙ ap (texted (cells_of was) (c.loop-from.before + 1) (book was)) cut
-          ∙ line_refused (cells_of was) (c.loop-from.before + 1) (book was) (book now-d) (between c.loop-from.from c.piece_end-end.result text) (lines (drop (c.piece_end-end.result + 1) text)) c.line.result y c.line.ensures.answer carry
-          ∙ ap (λ (b : Book). record { book = b; fault = Some y }) eq
-          ∙ ap (λ (r : Result Unit Fault). record { book = book now-d; fault = result_err r }) (sym (p.1 ∙ ap Err p.2));
-      kept = (c.loop-from.invariant.3.0, (λ i. names_from 0 (take (same.1 i) (same.0 i))) ∙ c.loop-from.invariant.3.1);
-      numbers = sound_numbers now-d;
-      cells = c.line.ensures.cells ∙ c.loop-from.invariant.1;
-    }
+pub returns-in_err-map_err-clause-answer : goal.returns-in_err-map_err-clause-answer
+returns-in_err-map_err-clause-answer c =
+    let w = c.in-Some.line.now in
+    let n = length c.loop-before.yielded in
+    let ps = pieces 10 c.unended.result.now in
+    let ls = lines c.args.text.now in
+    let t = numbered_here ps n c.in-Some.before w (YieldsList-turn (YieldsList-from_enumerate (YieldsList-at {t = c.split-lines.result} (cc) (yields_pieces _ 10 c.unended.result.now (cc) (cc) (cc) (λ x b q k. search (rules, tests)))) (cc)) c.loop-before.yielded _ c.loop-before.yielded_by _ _ (c.in-Some.before, c.in-Some.line) c.in-Some.is c.next.ensures.steps) in
+    let was = c.loop-before.self in
+    let now-d = c.line.new.self in
+    let p = err_from_is_err_and c.from_residual.result c.from_residual.ensures.1 in
+    let y = c.in_err-map_err.field-0.0 in
+    let carried-here : carried (in_text (c.in-Some.before + 1)) c.line.result ≡ Err y = search rules in
+    let carry = subst (λ m. carried (in_text (m + 1)) c.line.result ≡ Err y) t.0 carried-here in
+    let same : ps ≡ ls = c.unended.ensures in
+    let eq = same_book was now-d (left_same was.page now-d.page (n + 1) c.line.result y c.line.ensures.left carry) in
+    c.loop-before.invariant.1
+    ∙ ap (λ qs. texted (cells_of was) (n + 1) (book was) (drop n qs)) (sym same)
+    ∙ ap (texted (cells_of was) (n + 1) (book was)) t.1
+    ∙ line_refused (cells_of was) (n + 1) (book was) (book now-d) w (drop (n + 1) ps) c.line.result y c.line.ensures.answer carry
+    ∙ ap (λ (b : Book). record { book = b; fault = Some y }) eq
+    ∙ ap (λ (r : Result Unit Fault). record { book = book now-d; fault = result_err r }) (sym (p.1 ∙ ap Err p.2))
 
+pub returns-clause-answer : goal.returns-clause-answer
+unfolding texted
+returns-clause-answer c =
+    let n = length c.loop-before.yielded in
+    let t = YieldsList-end (YieldsList-from_enumerate (YieldsList-at {t = c.split-lines.result} (cc) (yields_pieces _ 10 c.unended.result.now (cc) (cc) (cc) (λ x b q k. search (rules, tests)))) (cc)) c.loop-before.yielded _ c.loop-before.yielded_by _ _ c.in-None.is c.next.ensures.steps in
+    let l = length-enumerate_from 0 (pieces 10 c.unended.result.now) in
+    let same : length (pieces 10 c.unended.result.now) ≡ length (lines c.args.text.now) = ap length c.unended.ensures in
+    let d = c.loop-before.self in
+    c.loop-before.invariant.1
+    ∙ ap (texted (cells_of d) (n + 1) (book d)) (drop_all n (lines c.args.text.now) (omega (arith, t.1)))
+
+pub returns-clause-numbers : goal.returns-clause-numbers
+returns-clause-numbers c = sound_numbers c.loop-before.self
