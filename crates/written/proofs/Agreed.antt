@@ -1,10 +1,10 @@
 -- Names match when their capitals are equal and their letters agree place by place.
-use Rattle.std.proofs.Common.{◌≡◌, ℕ, zero, suc, ◌+◌, ◌-◌, ◌<◌, ◌≤◌, true, false, ◌||◌, eqb, ltb, List, [], ◌∷◌, length, get_or, take, Decides, sym, refl, ap, ◌∙◌, subst, inl, inr, ⊎_elim, arith}
-use Rattle.std.proofs.lemmas.List.{ext_get_or, get_or_default, get_or-drop, get_or_past, get_or-take, length-take-le}
-use Rattle.std.proofs.lemmas.Bool.{true≢false, and_from, and_parts, cases_Bool, cases_lt, eq-eqb, eqb-true, lt-ltb, le-ltb, or_cases, or_left, or_right, cond_both}
+use Rattle.std.proofs.Common.{◌≡◌, ℕ, zero, suc, ◌+◌, ◌-◌, ◌≤◌, true, ◌||◌, eqb, List, [], ◌∷◌, length, get_or, Decides, sym, refl, ap, ◌∙◌, subst, inl, inr, ⊎_elim, arith}
+use Rattle.std.proofs.lemmas.List.{get_or-drop, length-take-le}
+use Rattle.std.proofs.lemmas.Bool.{and_from, and_parts, eq-eqb, eqb-true, or_cases, or_left, or_right, cond_both}
 use Rattle.formula.specs.Cuts.{capital, run}
 use Rattle.formula.specs.Tokens.{Name}
-use Rattle.written.specs.Matching.{Agree, Matching, agree, capitals, ending, endings_match, fits, names_match, same}
+use Rattle.written.specs.Matching.{Agree, Matching, agree, capitals, ending, endings_match, names_match, same}
 use Rattle.written.proofs.Known.{eq_same, same_eq}
 
 run_le : (xs : List ℕ) → run capital xs ≤ length xs
@@ -81,56 +81,3 @@ module _ (a b : Name) where
 
   pub matching_known : Decides (names_match a b) (Matching a b)
   matching_known = (said, unsaid)
-
-  false_unless : (Matching a b → ⊥) → names_match a b ≡ false
-  false_unless n = ⊎_elim (λ t. absurd (n (said t))) (λ f. f) (cases_Bool (names_match a b))
-
-  -- Names whose numbers of capitals differ.
-  pub counts_differ : (run capital a ≡ run capital b → ⊥) → names_match a b ≡ false
-  counts_differ n = false_unless (λ m. n (same_count m.0))
-
-  -- Names whose numbers of capitals are the same, by the places that both have.
-  module _ (m : ℕ) (p : run capital a ≡ m) (q : run capital b ≡ m) where
-    pub place_differs : (j : ℕ) → j < length a → j < length b → fits (ltb j m) (get_or a j 0) (get_or b j 0) ≡ false → names_match a b ≡ false
-    place_differs j la lb f =
-        false_unless (λ (e, h).
-        true≢false (⊎_elim
-        (λ l.
-        let c : take m a ≡ take m b = ap (λ k. take k a) (sym p) ∙ (e ∙ ap (λ k. take k b) q) in
-        let x : get_or a j 0 ≡ get_or b j 0 = sym (get_or-take m a j 0 l) ∙ (ap (λ xs. get_or xs j 0) c ∙ get_or-take m b j 0 l) in
-        sym (ap (λ t. fits t (get_or a j 0) (get_or b j 0)) (lt-ltb j m l) ∙ eq-eqb (get_or a j 0) (get_or b j 0) x) ∙ f)
-        (λ l.
-        let x : Agree (get_or a j 0) (get_or b j 0) =
-        subst (λ u. Agree u (get_or b j 0)) (get_or_default a j 42 0 la)
-        (subst (Agree (get_or a j 42)) (get_or_default b j 42 0 lb) (h j (omega arith)))
-        in sym (ap (λ t. fits t (get_or a j 0) (get_or b j 0)) (le-ltb j m l) ∙ said_agree (get_or a j 0) (get_or b j 0) x) ∙ f)
-        (cases_lt j m)))
-
-    module _ (all : (j : ℕ) → j < length a → j < length b → fits (ltb j m) (get_or a j 0) (get_or b j 0) ≡ true) where
-      equal_capitals : take m a ≡ take m b
-      equal_capitals =
-          let ra = run_le a in
-          let rb = run_le b in
-          let la = length-take-le m a (omega arith) in
-          let lb = length-take-le m b (omega arith) in
-          ext_get_or 0 (take m a) (take m b) (la ∙ sym lb)
-          (λ i h.
-          let l : i < m = omega arith in
-          let f = all i (omega arith) (omega arith) in
-          let e = eqb-true (get_or a i 0) (get_or b i 0) (ap (λ t. fits t (get_or a i 0) (get_or b i 0)) (sym (lt-ltb i m l)) ∙ f) in
-          get_or-take m a i 0 l ∙ (e ∙ sym (get_or-take m b i 0 l)))
-
-      pub places_agree : names_match a b ≡ true
-      places_agree = unsaid (
-        ap (λ k. take k a) p ∙ (equal_capitals ∙ ap (λ k. take k b) (sym q)),
-        λ i h.
-            ⊎_elim
-            (λ la.
-            ⊎_elim
-            (λ lb.
-            let t = ap (λ t. fits t (get_or a i 0) (get_or b i 0)) (sym (le-ltb i m (omega arith))) ∙ all i la lb in
-            subst (λ u. Agree u (get_or b i 42)) (get_or_default a i 0 42 la)
-            (subst (Agree (get_or a i 0)) (get_or_default b i 0 42 lb) (agree_said (get_or a i 0) (get_or b i 0) t)))
-            (λ lb. inr (inr (get_or_past b i 42 lb))) (cases_lt i (length b)))
-            (λ la. inr (inl (get_or_past a i 42 la))) (cases_lt i (length a)),
-      )

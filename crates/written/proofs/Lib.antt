@@ -11,6 +11,7 @@ pub mod Fronts
 pub mod Grown
 pub mod Judged
 pub mod Known
+pub mod Letters
 pub mod Lined
 pub mod Lines
 pub mod Names

@@ -110,6 +110,6 @@ pub numbered_here : (ps : List (List ℕ)) (n k : ℕ) (w : List ℕ) → (n < l
 numbered_here ps n k w (h, e) =
     let l = length-enumerate_from 0 ps in
     let m : n < length ps = omega arith in
-    let pair : (k, w) ≡ (0 + n, get_or ps n w) = e ∙ get_or-enumerate_from 0 ps n (k, w) m in
+    let pair : ◌≡◌ {A = ℕ × List ℕ} (k, w) (0 + n, get_or ps n w) = e ∙ get_or-enumerate_from 0 ps n (k, w) m in
     let first : k ≡ 0 + n = ap (λ (p : ℕ × List ℕ). p.0) pair in
     (omega arith, piece_here ps n w (m, ap (λ (p : ℕ × List ℕ). p.1) pair))

@@ -4,7 +4,6 @@ pub mod Examples
 pub mod Faults
 pub mod Kept
 pub mod Lines
-pub mod Letters
 pub mod Matching
 pub mod Meaning
 pub mod Model

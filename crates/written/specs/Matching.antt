@@ -1,5 +1,5 @@
 -- Which names of connectors match.
-use Rattle.std.specs.Prelude.{◌≡◌, ℕ, ◌≤◌, Bool, true, false, cond, ◌&&◌, ◌||◌, ◌⊎◌, List, [], ◌∷◌, take, drop, ◌==◌, slice_index_or}
+use Rattle.std.specs.Prelude.{◌≡◌, ℕ, ◌≤◌, Bool, true, false, ◌&&◌, ◌||◌, ◌⊎◌, List, [], ◌∷◌, take, drop, ◌==◌, slice_index_or}
 use Rattle.formula.specs.Cuts.{capital, run}
 use Rattle.formula.specs.Tokens.{Name}
 
@@ -38,7 +38,3 @@ Agree x y = (x ≡ y) ⊎ ((x ≡ 42) ⊎ (y ≡ 42))
 
 abbrev pub Matching : Name → Name → Type 0
 Matching a b = (capitals a ≡ capitals b) × ((i : ℕ) → run capital a ≤ i → Agree (slice_index_or a i 42) (slice_index_or b i 42))
-
--- Whether two letters at one place of two names let them match, by whether the place is among the capitals.
-abbrev pub fits : (exact : Bool) → ℕ → ℕ → Bool
-fits exact x y = cond exact (x == y) (agree x y)

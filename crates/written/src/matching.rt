@@ -1,43 +1,38 @@
-ghost use Rattle.std.specs.Prelude.{◌≡◌, ◌<◌, length, Decides, slice_index};
+ghost use Rattle.std.specs.Prelude.{◌≡◌, ℕ, ◌≤◌, Decides, length, map, refl, ◌==◌};
 ghost use Rattle.formula.specs.Cuts.{capital, run};
-ghost use Rattle.written.specs.Letters.{spelled};
-ghost use Rattle.written.specs.Matching.{Matching, fits, names_match};
+ghost use Rattle.written.specs.Matching.{Matching, agree, endings_match, names_match};
 
 /// The letter that agrees with every letter.
 const STAR: u16 = 42;
 
-/// The letters of a name, as bytes or as cells of a table.
-#[derive(Clone, Copy)]
-pub(crate) enum Letters<'a> {
-    Bytes(&'a [u8]),
-    Cells(&'a [u16]),
+/// A letter of a name: a byte of a text, or a cell of a table.
+pub(crate) trait Letter: Copy + PartialEq {
+    ghost code: { Self → ℕ };
+
+    /// What letters of different kinds are told apart by.
+    fn code(self) -> u16
+        ensures { result ≡ code self };
+
+    ghost told_apart: { (x y : Self) → Self.eq x y ≡ (code x == code y) };
 }
 
-fn cell_at(cells: &[u16], place: usize) -> u16
-    requires { place < length cells.now }
-    ensures { result ≡ slice_index cells.now place }
-{
-    cells[place]
-}
+impl Letter for u8 {
+    ghost code = { λ x. x };
 
-impl<'a> Letters<'a> {
-    fn len(&self) -> usize
-        ensures { result ≡ length (spelled self.now) }
-    {
-        match self {
-            Letters::Bytes(bytes) => bytes.len(),
-            Letters::Cells(cells) => cells.len(),
-        }
+    ghost told_apart = { λ x y. refl };
+
+    fn code(self) -> u16 {
+        u16::from(self)
     }
+}
 
-    fn at(&self, place: usize) -> u16
-        requires { place < length (spelled self.now) }
-        ensures { result ≡ slice_index (spelled self.now) place }
-    {
-        match self {
-            Letters::Bytes(bytes) => u16::from(bytes[place]),
-            Letters::Cells(cells) => cell_at(cells, place),
-        }
+impl Letter for u16 {
+    ghost code = { λ x. x };
+
+    ghost told_apart = { λ x y. refl };
+
+    fn code(self) -> u16 {
+        self
     }
 }
 
@@ -48,40 +43,34 @@ fn is_capital(letter: u16) -> bool
 }
 
 /// How many capitals a name begins with.
-fn capital_count(name: &Letters) -> usize
-    ensures { result ≡ run capital (spelled name.now) }
+fn capital_count<L: Letter>(name: &[L]) -> usize
+    ensures within { result ≤ length name.now }
+    ensures value { result ≡ run capital (map L.code name.now) }
 {
-    let len = name.len();
-    for i in 0..len {
-        if !is_capital(name.at(i)) {
-            return i;
-        }
-    }
-    len
+    name.iter().take_while(|x| is_capital(x.code())).count()
 }
 
-/// Whether two letters at one place let two names match: among the capitals they are equal, and elsewhere one may be a star.
-fn agree(exact: bool, x: u16, y: u16) -> bool
-    ensures { result ≡ fits exact x y }
+/// Whether two letters of two endings agree.
+fn agree(x: u16, y: u16) -> bool
+    ensures { result ≡ agree x y }
 {
-    x == y || !exact && (x == STAR || y == STAR)
+    x == y || x == STAR || y == STAR
+}
+
+/// Whether two endings agree, the shorter one continued with stars.
+fn endings_match<L: Letter>(a: &[L], b: &[L]) -> bool
+    ensures { result ≡ endings_match (map L.code a.now) (map L.code b.now) }
+{
+    a.iter().zip(b).all(|(x, y)| agree(x.code(), y.code()))
 }
 
 /// Whether two names match.
-pub(crate) fn names_match(a: &Letters, b: &Letters) -> bool
-    ensures { result ≡ names_match (spelled a.now) (spelled b.now) }
+pub(crate) fn names_match<L: Letter>(a: &[L], b: &[L]) -> bool
+    ensures { result ≡ names_match (map L.code a.now) (map L.code b.now) }
 {
-    let capitals = capital_count(a);
-    if capital_count(b) != capitals {
-        return false;
-    }
-    let shared = a.len().min(b.len());
-    for i in 0..shared {
-        if !agree(i < capitals, a.at(i), b.at(i)) {
-            return false;
-        }
-    }
-    true
+    let (a_capitals, a_ending) = a.split_at(capital_count(a));
+    let (b_capitals, b_ending) = b.split_at(capital_count(b));
+    a_capitals == b_capitals && endings_match(a_ending, b_ending)
 }
 
 /// Whether two names of connectors match.
@@ -89,5 +78,5 @@ pub fn matching(a: &[u8], b: &[u8]) -> bool
     ensures value { result ≡ names_match a.now b.now }
     ensures law { Decides result (Matching a.now b.now) }
 {
-    names_match(&Letters::Bytes(a), &Letters::Bytes(b))
+    names_match(a, b)
 }

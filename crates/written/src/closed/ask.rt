@@ -8,7 +8,7 @@ ghost use Rattle.written.specs.Store.{cell, model, name_at, numbers_at};
 
 use crate::cells;
 use crate::closed::Written;
-use crate::matching::{Letters, names_match};
+use crate::matching::names_match;
 use crate::page::write::MARK;
 use lexicon::dictionary::Dictionary;
 use lexicon::side::Side;
@@ -111,6 +111,6 @@ impl<'t> Dictionary for Written<'t> {
         }
         let a = cells::letters(self.table, a);
         let b = cells::letters(self.table, b);
-        names_match(&Letters::Cells(a), &Letters::Cells(b))
+        names_match(a, b)
     }
 }

@@ -1,22 +1,17 @@
-use Rattle.std.proofs.Common.{sym, ap, ◌∙◌, arith}
+use Rattle.std.proofs.Common.{rules, tests, ◌∙◌}
+use Rattle.std.proofs.lemmas.Iterator.{YieldsList-from_slice}
+use Rattle.std.proofs.lemmas.Iterator.Consumers.{YieldsList-at, count_from_yields_List}
+use Rattle.std.proofs.lemmas.Iterator.Search.{YieldsList-from_take_while}
+use Rattle.std.proofs.lemmas.List.Folds.{length-prefix_len}
 use Rattle.formula.specs.Cuts.{capital}
-use Rattle.formula.proofs.Places.{run_end, run_more, run_none}
-use Rattle.written.specs.Letters.{spelled}
+use Rattle.written.proofs.Letters.{run_prefix}
 use Rattle.written.proofs.matching.capital_count.Goals as goal
 
-pub returns-then-not-is_capital : goal.returns-then-not-is_capital
-returns-then-not-is_capital c =
-    let z = run_none capital (spelled c.args.name.now) c.loop-i.i
-    (sym (ap capital c.at.ensures) ∙ sym c.if-not-is_capital.ensures) (omega arith)
-    in omega (arith, c.loop-i.invariant)
-
-pub loop-i-preserved : goal.loop-i-preserved
-loop-i-preserved c =
-    c.loop-i.invariant
-    ∙ run_more capital (spelled c.args.name.now) c.loop-i.i (omega arith)
-    (sym (ap capital c.at.ensures) ∙ sym c.if-not-is_capital.ensures)
-
-pub returns : goal.returns
-returns c =
-    let z = run_end capital (spelled c.args.name.now) c.loop-i.i (omega arith) in
-    omega (arith, c.loop-i.invariant)
+pub returns-clause-value : goal.returns-clause-value
+returns-clause-value g c =
+    let code = g.L.Letter.code in
+    let xs = c.args.name.now in
+    count_from_yields_List c.take_while.result _ c.count.ensures.ran
+    (YieldsList-from_take_while _ (λ x. capital (code x)) (YieldsList-at c.take_while.ensures.source (YieldsList-from_slice xs (cc))) c.take_while.ensures.closure c.take_while.ensures.done (λ x b q k. search (rules, tests)))
+    ∙ length-prefix_len (λ x. capital (code x)) xs
+    ∙ run_prefix code capital xs

@@ -1,22 +1,32 @@
-use Rattle.std.proofs.Common.{ltb, sym, ◌∙◌, ap₂, arith}
-use Rattle.written.specs.Letters.{spelled}
-use Rattle.written.specs.Matching.{fits}
-use Rattle.written.proofs.Agreed.{counts_differ, place_differs, places_agree}
+use Rattle.std.proofs.Common.{◌≡◌, ◌&&◌, true, false, map, take, drop, sym, ap, ap₂, ◌∙◌}
+use lib.Pointwise.{pointwise}
+use Rattle.written.specs.Matching.{endings_match}
+use Rattle.written.proofs.Letters.{by_parts}
 use Rattle.written.proofs.matching.names_match.Goals as goal
 
-pub returns-then-capital_count-capitals : goal.returns-then-capital_count-capitals
-returns-then-capital_count-capitals c =
-    sym (counts_differ (spelled c.args.a.now) (spelled c.args.b.now)
-    (λ e. c.if-capital_count-capitals.true (c.capital_count.ensures ∙ (sym e ∙ sym c.capital_count-capitals.ensures))))
+pub returns-then-eq : goal.returns-then-eq
+returns-then-eq g c =
+    let code = g.L.Letter.code in
+    let eq = g.L.PartialEq.eq in
+    let xs = c.args.a.now in
+    let ys = c.args.b.now in
+    let m = c.capital_count.result in
+    let n = c.capital_count-2.result in
+    let h : pointwise eq (take m xs) (take n ys) ≡ true = sym (c.if-eq.ensures ∙ ap₂ (pointwise eq) c.split_at.ensures.front c.split_at-2.ensures.front) in
+    c.endings_match.ensures
+    ∙ ap₂ (λ a b. endings_match (map code a) (map code b)) c.split_at.ensures.back c.split_at-2.ensures.back
+    ∙ ap (λ t. t && endings_match (map code (drop m xs)) (map code (drop n ys))) (sym h)
+    ∙ sym (by_parts code eq g.met.L.Letter.told_apart xs ys m n c.capital_count.ensures.value c.capital_count-2.ensures.value)
 
-pub returns-then-not-agree : goal.returns-then-not-agree
-returns-then-not-agree c =
-    sym (place_differs (spelled c.args.a.now) (spelled c.args.b.now) c.capital_count-capitals.result (sym c.capital_count-capitals.ensures)
-    (sym c.capital_count.ensures ∙ c.if-capital_count-capitals.false) c.loop-i.i (omega arith) (omega arith)
-    (sym (ap₂ (fits (ltb c.loop-i.i c.capital_count-capitals.result)) c.at.ensures c.at-in-loop-i.ensures)
-    ∙ sym c.if-not-agree.ensures))
-
-pub returns : goal.returns
-returns c =
-    sym (places_agree (spelled c.args.a.now) (spelled c.args.b.now) c.capital_count-capitals.result (sym c.capital_count-capitals.ensures)
-    (sym c.capital_count.ensures ∙ c.if-capital_count-capitals.false) (λ j la lb. c.loop-i.invariant j (omega arith)))
+pub returns-else-eq : goal.returns-else-eq
+returns-else-eq g c =
+    let code = g.L.Letter.code in
+    let eq = g.L.PartialEq.eq in
+    let xs = c.args.a.now in
+    let ys = c.args.b.now in
+    let m = c.capital_count.result in
+    let n = c.capital_count-2.result in
+    let h : pointwise eq (take m xs) (take n ys) ≡ false = sym (c.if-eq.ensures ∙ ap₂ (pointwise eq) c.split_at.ensures.front c.split_at-2.ensures.front) in
+    c.if-eq.false
+    ∙ ap (λ t. t && endings_match (map code (drop m xs)) (map code (drop n ys))) (sym h)
+    ∙ sym (by_parts code eq g.met.L.Letter.told_apart xs ys m n c.capital_count.ensures.value c.capital_count-2.ensures.value)
