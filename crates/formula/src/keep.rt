@@ -6,7 +6,7 @@ ghost use Rattle.formula.specs.Shown.{Shows, clip, disjunct_of, disjuncts_of, sh
 ghost use Rattle.formula.specs.Tokens.{Name};
 ghost use Rattle.formula.specs.Ways.{fitted, keep as with_one, long};
 
-use crate::way::{Disjunct, Disjuncts, MOST_WAYS, Way, Ways};
+use crate::way::{Disjunct, Disjuncts, Way, Ways};
 use refusal::Refusal;
 
 /// A way as a disjunct, if none of its lists is too long.
