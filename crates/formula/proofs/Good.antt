@@ -12,7 +12,7 @@ use Rattle.lexicon.specs.declared.side.Side.{Side}
 use Rattle.lexicon.specs.declared.side.Side.TheVariants.{Left, Right}
 use Rattle.refusal.specs.declared.Refusal.{Refusal}
 use Rattle.refusal.specs.declared.Refusal.TheVariants.{ManyWays, LongList}
-use Rattle.formula.specs.declared.fault.FormulaFault.{FormulaFault}
+use Rattle.refusal.specs.declared.fault.LineFault.{LineFault}
 use Rattle.formula.specs.declared.token.Join.{Join}
 use Rattle.formula.specs.declared.token.Join.TheVariants.{And, Or}
 use Rattle.formula.specs.declared.token.Bracket.{Bracket}
@@ -22,7 +22,7 @@ use Rattle.formula.specs.Formulas.{Formula, one, row, Item, named, empty, within
 use Rattle.formula.specs.Formulas.{tokens, item_tokens, row_tokens}
 use Rattle.formula.specs.Cuts.{capital, name_length, signed, token_at, Cut, ends, fails, token, placed, cut, cut_after}
 use Rattle.formula.specs.Reading.{reading, After, here, later, Answer, accepted}
-use Rattle.formula.specs.Faults.{carried, fault, then as handed}
+use Rattle.refusal.specs.Faults.{carried, fault, then as handed}
 use Rattle.formula.specs.Meaning.{meaning}
 use Rattle.formula.specs.Ways.{Way, asking, glue, product, joined, bracketed, ways, item_ways, row_ways, keep, kept}
 use Rattle.formula.specs.Ways.{there, long, some_long, fitted}
@@ -182,7 +182,6 @@ abbrev Short : Way → Type 0
 Short d = (length d.left ≤ 8) × (length d.right ≤ 8)
 
 all_short : (ds : List Way) → some_long ds ≡ false → AllByRecursion Short ds
-unfolding some_long
 all_short [] e = tt
 all_short (d ∷ ds) e =
     let (a, b) = or_parts (long d) (some_long ds) e in
@@ -212,7 +211,7 @@ accepted_ok xs ds = go (reading xs) refl
     whole f (Ok es) e q = fitted_ok (ways f) ds (cc)
     whole f (Err x) e q = let z : ◌≡◌ {A = ℕ} 0 1 = cc in absurd (omega arith)
 
-    go : (r : Result Formula FormulaFault) → reading xs ≡ r →
+    go : (r : Result Formula LineFault) → reading xs ≡ r →
         handed r (λ f. carried (λ x. fault 0 x) (fitted (ways f))) ≡ Ok ds → Accepted xs ds
     go (Ok f) e q = (f, e, whole f (fitted (ways f)) refl q)
     go (Err x) e q = let z : ◌≡◌ {A = ℕ} 0 1 = cc in absurd (omega arith)

@@ -10,7 +10,7 @@ use Rattle.std.proofs.Common.{◌≡◌, ℕ, ◌+◌, ◌≤◌, max, true, ltb
 use Rattle.std.proofs.lemmas.Bool.{cond-true, cond-false, cond_both, lt-ltb, le-ltb, ltb-true, ltb-false}
 use Rattle.lexicon.specs.declared.side.Side.TheVariants.{Right}
 use Rattle.refusal.specs.declared.Refusal.TheVariants.{OutOfPlace, TooDeep}
-use Rattle.formula.specs.declared.fault.FormulaFault.{FormulaFault}
+use Rattle.refusal.specs.declared.fault.LineFault.{LineFault}
 use Rattle.formula.specs.declared.token.Join.{Join}
 use Rattle.formula.specs.declared.token.Join.TheVariants.{And, Or}
 use Rattle.formula.specs.declared.token.Bracket.{Bracket}
@@ -23,7 +23,7 @@ use Rattle.formula.specs.Reading.{Before, nothing, after, Open, top, inside, Sta
 use Rattle.formula.specs.Reading.{open_depth, state_depth, finished, judged, read, start, After, here, later}
 use Rattle.formula.specs.Reading.{Possible, Allowed, Answer, accepted, misplaced, unfinished, too_deep, no_token}
 use Rattle.formula.specs.Reading.{RightAnswer}
-use Rattle.formula.specs.Faults.{fault}
+use Rattle.refusal.specs.Faults.{fault}
 
 -- What was said.
 
@@ -326,12 +326,12 @@ follow (later p w c ws d a) s t e h = go (step s w) e (λ u q. follow a u t q h)
         let l : state_depth u ≤ 16 = omega (arith, depth_height u, (ran u ws t q).1) in
         cond-false (ltb 16 (state_depth u)) _ _ (le-ltb 16 (state_depth u) l) ∙ ih u q
 
-judged_none : (p : ℕ) (o : Option State) (rest : State → Result Formula FormulaFault) → ((t : State) → o ≡ Some t → ⊥) →
+judged_none : (p : ℕ) (o : Option State) (rest : State → Result Formula LineFault) → ((t : State) → o ≡ Some t → ⊥) →
     judged p o rest ≡ Err (fault p OutOfPlace)
 judged_none p None rest h = refl
 judged_none p (Some t) rest h = absurd (h t refl)
 
-judged_deep : (p : ℕ) (o : Option State) (rest : State → Result Formula FormulaFault) (t : State) → o ≡ Some t →
+judged_deep : (p : ℕ) (o : Option State) (rest : State → Result Formula LineFault) (t : State) → o ≡ Some t →
     (state_depth t ≤ 16 → ⊥) → judged p o rest ≡ Err (fault p TooDeep)
 judged_deep p o rest t e h =
     ap (λ r. judged p r rest) e ∙ cond-true (ltb 16 (state_depth t)) _ _ (lt-ltb 16 (state_depth t) (omega arith))
@@ -341,7 +341,7 @@ finished_none p (wants b o) h = refl
 finished_none p (has f top) h = absurd (h f refl)
 finished_none p (has f (inside k b o)) h = refl
 
-pub only : (c : Cut) (r : Result Formula FormulaFault) → Answer c r → r ≡ read start c
+pub only : (c : Cut) (r : Result Formula LineFault) → Answer c r → r ≡ read start c
 unfolding read open_depth
 only c r (accepted f p a h) = sym (follow a start (has f top) (run_formula f top) (omega arith))
 only c r (misplaced ws p w d a m stuck) =

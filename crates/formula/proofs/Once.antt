@@ -8,7 +8,7 @@ use Rattle.std.proofs.ByRecursion.{all_has_itself, has_append_left, has_push}
 use Rattle.std.proofs.lemmas.Slice.Eq.{bytes_eq-Decides}
 use Rattle.std.proofs.lemmas.Bool.{and_from, and_parts, both_ways, cases_lt, cond_both, or_cases, or_left, or_right}
 use Rattle.std.specs.List.{ContainsAt as Has, AllByRecursion}
-use Rattle.std.specs.Str.{bytes_eq}
+use lib.Pointwise.{pointwise_decides}
 use Rattle.lexicon.specs.Lexicon.{free}
 use Rattle.formula.specs.Tokens.{Name}
 use Rattle.formula.specs.Ways.{Way, same_names, same_way, there, keep, KeptOnce}
@@ -16,45 +16,34 @@ use Rattle.formula.proofs.Good.{kept_all}
 
 -- The tests decide equality.
 
-same_list : (l m : List Name) → same_names l m ≡ true → l ≡ m
-same_list [] [] e = refl
-same_list [] (k ∷ m) e = absurd (both_ways false refl e)
-same_list (n ∷ l) [] e = absurd (both_ways false refl e)
-same_list (n ∷ l) (k ∷ m) e =
-    let (a, b) = and_parts (bytes_eq n k) (same_names l m) e in
-    ap₂ ◌∷◌ ((bytes_eq-Decides n k).0 a) (same_list l m b)
-
-list_same : (l : List Name) → same_names l l ≡ true
-list_same [] = refl
-list_same (n ∷ l) = and_from (bytes_eq n n) (same_names l l) ((bytes_eq-Decides n n).1 refl) (list_same l)
+names_decide : (l m : List Name) → (same_names l m ≡ true → l ≡ m) × (l ≡ m → same_names l m ≡ true)
+names_decide = pointwise_decides bytes_eq-Decides
 
 same : (d e : Way) → same_way d e ≡ true → d ≡ e
 same d e t =
     let (a, b) = and_parts (same_names d.left e.left) (same_names d.right e.right) t in
-    ap₂ both (same_list d.left e.left a) (same_list d.right e.right b)
+    ap₂ both ((names_decide d.left e.left).0 a) ((names_decide d.right e.right).0 b)
   where
     both : List Name → List Name → Way
     both l r = record { left = l; right = r }
 
 itself : (d : Way) → same_way d d ≡ true
 itself d =
-    and_from (same_names d.left d.left) (same_names d.right d.right) (list_same d.left) (list_same d.right)
+    and_from (same_names d.left d.left) (same_names d.right d.right) ((names_decide d.left d.left).1 refl) ((names_decide d.right d.right).1 refl)
 
 there_has : (d : Way) (es : List Way) → there d es ≡ true → Has es d
-unfolding there
 there_has d [] t = absurd (both_ways false refl t)
-there_has d (e ∷ es) t = go (or_cases (same_way d e) (there d es) t) (there_has d es)
+there_has d (e ∷ es) t = go (or_cases (same_way e d) (there d es) t) (there_has d es)
   where
-    go : (same_way d e ≡ true) ⊎ (there d es ≡ true) → (there d es ≡ true → Has es d) → Has (e ∷ es) d
-    go (inl a) ih = (0, omega arith, λ _. sym (same d e a))
+    go : (same_way e d ≡ true) ⊎ (there d es ≡ true) → (there d es ≡ true → Has es d) → Has (e ∷ es) d
+    go (inl a) ih = (0, omega arith, λ _. same e d a)
     go (inr b) ih = let (k, l, is) = ih b in (suc k, omega arith, is)
 
 has_there : (d : Way) (es : List Way) → Has es d → there d es ≡ true
-unfolding there
 has_there d [] (k, l, is) = absurd (omega arith)
 has_there d (e ∷ es) (zero, l, is) =
-    or_left (same_way d e) (there d es) (subst (λ x. same_way d x ≡ true) (sym (is d)) (itself d))
-has_there d (e ∷ es) (suc k, l, is) = or_right (same_way d e) (there d es) (has_there d es (k, omega arith, is))
+    or_left (same_way e d) (there d es) (subst (λ x. same_way x d ≡ true) (sym (is d)) (itself d))
+has_there d (e ∷ es) (suc k, l, is) = or_right (same_way e d) (there d es) (has_there d es (k, omega arith, is))
 
 -- What is kept stays apart.
 

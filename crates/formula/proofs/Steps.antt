@@ -3,14 +3,14 @@ use Rattle.std.proofs.Common.{◌≡◌, ℕ, suc, ◌<◌, ◌≤◌, true, fal
 use Rattle.refusal.specs.declared.Refusal.{Refusal}
 use Rattle.refusal.specs.declared.Refusal.TheVariants.{OutOfPlace, TooDeep}
 use Rattle.lexicon.specs.declared.side.Side.{Side}
-use Rattle.formula.specs.declared.fault.FormulaFault.{FormulaFault}
+use Rattle.refusal.specs.declared.fault.LineFault.{LineFault}
 use Rattle.formula.specs.declared.token.Join.{Join}
 use Rattle.formula.specs.declared.token.Join.TheVariants.{And, Or}
 use Rattle.formula.specs.declared.token.Bracket.{Bracket}
 use Rattle.formula.specs.declared.token.Bracket.TheVariants.{Round, Brace}
 use Rattle.formula.specs.Cuts.{Cut, ends, fails, token}
-use Rattle.formula.specs.Faults.{fault}
-use Rattle.formula.specs.Formulas.{Formula, one, row, Item, named, within, empty, Items, first, then}
+use Rattle.refusal.specs.Faults.{fault}
+use Rattle.formula.specs.Formulas.{Formula, one, row, Item, named, within, empty, items_in}
 use Rattle.formula.specs.Progress.{goes, joined_by, Stopped, Unclosed, NoPair, NotEmpty}
 use Rattle.formula.specs.Reading.{Before, nothing, after, Open, top, inside, State, wants, has, add, close_empty, go_on}
 use Rattle.formula.specs.Reading.{open_depth, state_depth, judged, read}
@@ -18,7 +18,7 @@ use Rattle.formula.specs.Tokens.{Name, Word, mark, open_with, close_with, connec
 use Rattle.formula.specs.Ways.{ways, item_ways, joined}
 
 -- A step that stays within the depth is gone on from.
-shallow : (p : ℕ) (s : State) (rest : State → Result Formula FormulaFault) → state_depth s ≤ 16 → judged p (Some s) rest ≡ rest s
+shallow : (p : ℕ) (s : State) (rest : State → Result Formula LineFault) → state_depth s ≤ 16 → judged p (Some s) rest ≡ rest s
 shallow p s rest h = ap (λ b. cond b (Err (fault p TooDeep)) (rest s)) (le-ltb 16 (state_depth s) h)
 
 pub fails_there : (s : State) (c : Cut) (p : ℕ) (r : Refusal) → c ≡ fails p r → read s c ≡ Err (fault p r)
@@ -96,7 +96,7 @@ closes f b o c p rest Round e h =
 closes f b o c p rest Brace e h =
     ap (read (has f (inside Brace b o))) e ∙ shallow p (has (add b (within Brace f)) o) (λ t. read t rest) h
 
-pub unclosed : (f : Formula) (b : Before) (o : Open) (c : Cut) (k : Bracket) (e : FormulaFault) → Stopped f c → Unclosed k c e →
+pub unclosed : (f : Formula) (b : Before) (o : Open) (c : Cut) (k : Bracket) (e : LineFault) → Stopped f c → Unclosed k c e →
     read (has f (inside k b o)) c ≡ Err e
 unfolding read
 unclosed f b o (ends p) k e s u = ap Err (sym u)
@@ -122,10 +122,6 @@ more_at_top f p (close_with k) c s = refl
 more_at_top f p (connector x n) c s = refl
 
 -- A formula goes on with a mark, or it does not.
-abbrev pub items_in : Formula → Items
-items_in (one i) = first i
-items_in (row j is i) = then is i
-
 pub goes_on : (f : Formula) (j : Join) (o : Open) → goes (joined_by f) j ≡ true → go_on f j o ≡ Some (wants (after j (items_in f)) o)
 goes_on (one i) j o e = refl
 goes_on (row And is i) And o e = refl

@@ -1,35 +1,22 @@
 -- Ways that are joined in tables, and what the tables show of them.
-use Rattle.std.proofs.Common.{◌≡◌, ℕ, ◌+◌, ◌*◌, ◌<◌, ◌≤◌, cond, ◌⊎◌, List, [], ◌∷◌, ◌++◌, map, length, get_or, take, Some, None, Option, sym, refl, ap, ◌∙◌, inl, inr, append_assoc, append-nil, suc-mul, mul-le-mul, one-mul, zero-mul, mul-one, arith, length-append, length-take-le}
+use Rattle.std.proofs.Common.{◌≡◌, ◌+◌, ◌*◌, ◌<◌, ◌≤◌, cond, ◌⊎◌, List, [], ◌∷◌, ◌++◌, map, length, Some, None, Option, sym, refl, ap, ◌∙◌, inl, inr, append_assoc, append-nil, suc-mul, mul-le-mul, one-mul, zero-mul, mul-one, arith, length-append}
 use mathlib.Core.List.{map-append}
 use lib.ListN.{length-map}
-use Rattle.std.proofs.lemmas.List.{take_more}
 use Rattle.std.proofs.lemmas.Bool.{cases_lt, lt-ltb, le-ltb}
-use Rattle.formula.specs.declared.names.Names.{Names}
-use Rattle.formula.specs.declared.listing.Listing.{Listing}
+use Rattle.arrayvec.specs.ArrayVec.{ArrayVec}
+use Rattle.formula.specs.declared.way.Way.{Way as Made}
 use Rattle.formula.specs.declared.token.Join.{Join}
 use Rattle.formula.specs.declared.token.Join.TheVariants.{And, Or}
-use Rattle.formula.specs.declared.ways.Ways.{Ways}
-use Rattle.formula.specs.declared.ways.Ways.TheVariants.{Listed, Many}
-use Rattle.formula.specs.Shown.{Clipped, Shows, clip, clip_glue, half_glue, names_of, places_of, short, table, shown, items_of}
-use Rattle.formula.specs.Cuts.{name_there}
+use Rattle.formula.specs.Shown.{Clipped, Shows, clip, clip_glue, half_glue, short, table, shown}
 use Rattle.formula.specs.Tokens.{Name}
 use Rattle.formula.specs.Ways.{Way, glue, product, joined}
 
-pub length_names : (xs : List ℕ) (n : Names) → length (names_of xs n) ≡ n.len
-length_names xs n =
-    length-map (places_of n) (name_there xs) ∙ length-take-le n.len n.places (omega arith)
+pub length_shown : (l : ArrayVec Made) (ds : List Way) → table l ≡ map clip ds → length ds ≡ length l.items
+length_shown l ds e = sym (length-map ds clip) ∙ ap length (sym e) ∙ length-map l.items shown
 
-pub length_shown : (xs : List ℕ) (l : Listing) (ds : List Way) → table xs l ≡ map clip ds → length ds ≡ l.len
-length_shown xs l ds e =
-    sym (length-map ds clip) ∙ ap length (sym e) ∙ length-map (items_of l) (shown xs)
-    ∙ length-take-le l.len l.items (omega arith)
-
--- One more at the end of what is copied.
-pub copied_more : {X : Type 0} (front rest was after : List X) (i : ℕ) (d : X) → i < length rest → was ≡ front ++ take i rest →
-    after ≡ was ++ (get_or rest i d ∷ []) → after ≡ front ++ take (i + 1) rest
-copied_more front rest was after i d h e g =
-    g ∙ ap (λ vs. vs ++ (get_or rest i d ∷ [])) e ∙ append_assoc front (take i rest) (get_or rest i d ∷ [])
-    ∙ ap (λ vs. front ++ vs) (sym (take_more rest i d h))
+pub map_both : {X Y Z : Type 0} (f : Y → Z) (g : X → Y) (xs : List X) → map (λ x. f (g x)) xs ≡ map f (map g xs)
+map_both f g [] = refl
+map_both f g (x ∷ xs) = ap (λ l. f (g x) ∷ l) (map_both f g xs)
 
 -- A list is shown where it is short enough, and a longer one does not become so.
 pub too_long : (l : List Name) → 8 < length l → short l ≡ None
@@ -92,9 +79,9 @@ length_product (d ∷ ds) es =
     in omega arith
 
 -- Some ways are joined to no fewer.
-pub some_way : (xs : List ℕ) (w : Ways) (ds : List Way) → Shows xs w ds → 0 < length ds
-some_way xs (Listed l) ds h = h.0
-some_way xs Many ds h = omega arith
+pub some_way : (w : Option (ArrayVec Made)) (ds : List Way) → Shows w ds → 0 < length ds
+some_way (Some l) ds h = h.0
+some_way None ds h = omega arith
 
 pub no_fewer : (j : Join) (ds es : List Way) → 0 < length ds → 0 < length es →
     (length ds ≤ length (joined j ds es)) × (length es ≤ length (joined j ds es))

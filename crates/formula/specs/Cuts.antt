@@ -1,14 +1,14 @@
 -- How the bytes of a formula are cut into tokens, each with the place where it begins.
 use Rattle.std.specs.Prelude.{◌≡◌, ℕ, zero, suc, pred, ◌+◌, Bool, cond, ◌&&◌, ◌||◌, List, [], ◌∷◌, ◌++◌, length, take, drop, replicate, Some, None, Ok, Err, Option, Result, ◌==◌, ◌≢◌, nat_le, nat_lt, slice_index}
-use Rattle.lexicon.specs.declared.side.Side.{Side}
+use Rattle.std.specs.List.{prefix_len}
 use Rattle.lexicon.specs.declared.side.Side.TheVariants.{Left, Right}
 use Rattle.refusal.specs.declared.Refusal.{Refusal}
 use Rattle.refusal.specs.declared.Refusal.TheVariants.{UnknownMark, BadName}
-use Rattle.formula.specs.declared.fault.FormulaFault.{FormulaFault}
+use Rattle.refusal.specs.declared.fault.LineFault.{LineFault}
 use Rattle.formula.specs.declared.token.Join.TheVariants.{And, Or}
-use Rattle.formula.specs.declared.token.Letter.{Letter}
-use Rattle.formula.specs.declared.token.Letter.TheVariants.{Capital, Small}
-use Rattle.formula.specs.declared.token.Placed.{Placed}
+use Rattle.formula.specs.declared.rest.Placed.{Placed}
+use Rattle.formula.specs.declared.rest.Rest.{Rest}
+use Rattle.formula.specs.declared.token.Token.{Token}
 use Rattle.formula.specs.declared.token.Bracket.TheVariants.{Round, Brace}
 use Rattle.formula.specs.Tokens.{Name, Word, mark, open_with, close_with, connector, spelled, said}
 
@@ -19,22 +19,9 @@ capital b = nat_le 65 b && nat_le b 90
 abbrev pub small : ℕ → Bool
 small b = (nat_le 97 b && nat_le b 122) || b == 42
 
-abbrev pub lettered : Letter → ℕ → Bool
-lettered Capital b = capital b
-lettered Small b = small b
-
--- How many bytes at the front pass a test.
-unfoldable pub run : (ℕ → Bool) → List ℕ → ℕ
-run p [] = 0
-run p (b ∷ bs) = cond (p b) (suc (run p bs)) 0
-
 -- A name: one or more capitals, then any small letters or stars.
 abbrev pub name_length : List ℕ → ℕ
-name_length bs = run capital bs + run small (drop (run capital bs) bs)
-
--- The name that stands at a place of a formula.
-abbrev pub name_there : List ℕ → ℕ → Name
-name_there formula p = take (name_length (drop p formula)) (drop p formula)
+name_length bs = prefix_len capital bs + prefix_len small (drop (prefix_len capital bs) bs)
 
 -- The connector of a name that is followed by a byte.
 abbrev pub signed : Name → ℕ → Result Word Refusal
@@ -76,29 +63,23 @@ cut_after zero p (b ∷ bs) =
     cond (b == 32) (cut_after zero (suc p) bs)
     (placed p (token_at b bs) (λ w. cut_after (pred (length (spelled w))) (suc p) bs))
 
--- What is cut from a place of a formula on.
-abbrev pub cut_from : List ℕ → ℕ → Cut
-cut_from formula p = cut_after 0 p (drop p formula)
-
 abbrev pub cut : List ℕ → Cut
-cut formula = cut_from formula 0
+cut formula = cut_after 0 0 formula
+
+-- What is cut from what is left of a formula.
+abbrev pub cut_rest : Rest → Cut
+cut_rest r = cut_after 0 r.place r.bytes.now
 
 -- What was found where a token was looked for.
-abbrev pub said_there : Result Placed Refusal → Result Word Refusal
-said_there (Ok p) = Ok (said p.token)
+abbrev pub said_there : Result Token Refusal → Result Word Refusal
+said_there (Ok t) = Ok (said t)
 said_there (Err r) = Err r
 
 -- What is cut where the next token was looked for: the token and what is cut behind it, or why there is none.
-abbrev pub next_cut : List ℕ → Result (Option Placed) FormulaFault → Cut
-next_cut formula (Ok None) = ends (length formula)
-next_cut formula (Ok (Some p)) = token p.at (said p.token) (cut_from formula p.end)
-next_cut formula (Err e) = fails e.place e.refusal
-
--- A token that stands at a place ends behind its spelling, and a connector's name is the one that stands there.
-abbrev pub Stands : List ℕ → ℕ → Placed → Type 0
-Stands formula at p =
-    (p.at ≡ at) × (p.end ≡ at + length (spelled (said p.token)))
-    × ((s : Side) (n : Name) → said p.token ≡ connector s n → n ≡ name_there formula at)
+abbrev pub next_cut : Rest → Result (Option Placed) LineFault → Cut
+next_cut r (Ok None) = ends (r.place + length r.bytes.now)
+next_cut r (Ok (Some p)) = token p.at (said p.token) (cut_rest p.rest)
+next_cut r (Err e) = fails e.place e.refusal
 
 -- The bytes, read from a place, are the cut's tokens in order, each at its place, with only spaces before and between
 -- them; where the cut fails, no token begins.

@@ -24,6 +24,15 @@ mutual
     first : Item → Items
     then : Items → Item → Items
 
+-- The items of a formula, as those before the last of a longer one.
+abbrev pub items_in : Formula → Items
+items_in (one i) = first i
+items_in (row j is i) = then is i
+
+-- A formula with one item more, joined by a mark.
+abbrev pub longer : Formula → Join → Item → Formula
+longer f j i = row j (items_in f) i
+
 unfoldable mutual
   pub tokens : Formula → List Word
   tokens (one i) = item_tokens i

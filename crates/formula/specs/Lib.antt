@@ -1,6 +1,5 @@
 pub mod Cuts
 pub mod Examples
-pub mod Faults
 pub mod Formulas
 pub mod Meaning
 pub mod Progress

@@ -1,27 +1,30 @@
 -- What the readers of items and formulas promise each other: how far each takes the reading of the tokens, from whatever
 -- stands open before.
-use Rattle.std.specs.Prelude.{◌≡◌, ℕ, ◌<◌, ◌≤◌, Bool, true, false, List, length, Some, None, Ok, Err, Option, Result, ◌≢◌}
+use Rattle.std.specs.Prelude.{◌≡◌, ℕ, ◌<◌, Bool, true, false, List, length, Some, None, Ok, Err, Option, Result, ◌≢◌}
 use Rattle.refusal.specs.declared.Refusal.TheVariants.{OutOfPlace}
-use Rattle.formula.specs.declared.fault.FormulaFault.{FormulaFault}
-use Rattle.formula.specs.declared.row.Reading.{Reading}
-use Rattle.formula.specs.declared.row.Row.{Row}
+use Rattle.refusal.specs.declared.fault.LineFault.{LineFault}
+use Rattle.arrayvec.specs.ArrayVec.{ArrayVec}
+use Rattle.formula.specs.declared.read.Next.{Next}
+use Rattle.formula.specs.declared.read.Reading.{Reading}
+use Rattle.formula.specs.declared.read.Row.{Row}
+use Rattle.formula.specs.declared.rest.Rest.{Rest}
 use Rattle.formula.specs.declared.token.Join.{Join}
 use Rattle.formula.specs.declared.token.Join.TheVariants.{And, Or}
 use Rattle.formula.specs.declared.token.Bracket.{Bracket}
 use Rattle.formula.specs.declared.token.Bracket.TheVariants.{Round, Brace}
-use Rattle.formula.specs.declared.ways.Ways.{Ways}
-use Rattle.formula.specs.Cuts.{Cut, ends, fails, token, cut_from}
-use Rattle.formula.specs.Faults.{fault}
-use Rattle.formula.specs.Formulas.{Formula, one, row, Item}
+use Rattle.formula.specs.declared.way.Way.{Way}
+use Rattle.formula.specs.Cuts.{Cut, ends, fails, token, cut_rest}
+use Rattle.refusal.specs.Faults.{fault}
+use Rattle.formula.specs.Formulas.{Formula, one, row, Item, longer}
 use Rattle.formula.specs.Reading.{Before, nothing, Open, inside, wants, has, add, close_empty, go_on, open_depth, read, reading}
 use Rattle.formula.specs.Shown.{Shows}
 use Rattle.formula.specs.Tokens.{mark, open_with, close_with, connector}
 use Rattle.formula.specs.Ways.{ways, item_ways}
 
--- What was read lies within the bytes, and is something.
-abbrev pub Further : List ℕ → ℕ → Result Reading FormulaFault → Type 0
-Further xs at (Ok r) = (at < r.end) × (r.end ≤ length xs)
-Further xs at (Err e) = Unit {0}
+-- What was read is something, so fewer bytes are left.
+abbrev pub Further : Rest → Result Reading LineFault → Type 0
+Further r (Ok x) = length x.rest.bytes.now < length r.bytes.now
+Further r (Err e) = Unit {0}
 
 abbrev pub goes : Option Join → Join → Bool
 goes None j = true
@@ -44,14 +47,14 @@ Stopped f (token p (close_with k) c) = Unit {0}
 Stopped f (token p (connector s n) c) = Unit {0}
 
 -- A bracket does not close with what comes next, and that is a fault.
-abbrev pub Unclosed : Bracket → Cut → FormulaFault → Type 0
+abbrev pub Unclosed : Bracket → Cut → LineFault → Type 0
 Unclosed k (ends p) e = e ≡ fault p OutOfPlace
 Unclosed k (fails p r) e = e ≡ fault p r
 Unclosed k (token p w c) e = (w ≢ close_with k) × (e ≡ fault p OutOfPlace)
 
-abbrev pub Closing : List ℕ → Bracket → ℕ → Result ℕ FormulaFault → Type 0
-Closing xs k at (Ok end) = (p : ℕ) × (cut_from xs at ≡ token p (close_with k) (cut_from xs end))
-Closing xs k at (Err e) = Unclosed k (cut_from xs at) e
+abbrev pub Closing : Rest → Bracket → Result Rest LineFault → Type 0
+Closing r k (Ok s) = (p : ℕ) × (cut_rest r ≡ token p (close_with k) (cut_rest s))
+Closing r k (Err e) = Unclosed k (cut_rest r) e
 
 -- What comes next is no closing round bracket.
 abbrev pub NotRound : Cut → Type 0
@@ -77,50 +80,54 @@ NotEmpty Round c = NotRound c
 NotEmpty Brace c = Unit {0}
 
 -- A round bracket closes at once, or something else comes, or there is no token.
-abbrev pub EmptyPair : List ℕ → Bracket → ℕ → Result (Option ℕ) FormulaFault → Type 0
-EmptyPair xs k at (Ok (Some end)) = (p : ℕ) × (k ≡ Round) × (cut_from xs at ≡ token p (close_with Round) (cut_from xs end))
-EmptyPair xs k at (Ok None) = NotEmpty k (cut_from xs at)
-EmptyPair xs k at (Err e) = cut_from xs at ≡ fails e.place e.refusal
+abbrev pub EmptyPair : Rest → Bracket → Result (Option Rest) LineFault → Type 0
+EmptyPair r k (Ok (Some s)) = (p : ℕ) × (k ≡ Round) × (cut_rest r ≡ token p (close_with Round) (cut_rest s))
+EmptyPair r k (Ok None) = NotEmpty k (cut_rest r)
+EmptyPair r k (Err e) = cut_rest r ≡ fails e.place e.refusal
 
 -- From where an item is wanted, at a depth, to where it stands.
-abbrev pub ItemRead : List ℕ → (at depth : ℕ) → Result Reading FormulaFault → Type 0
-ItemRead xs at d (Ok r) =
-    (i : Item) × Shows xs r.ways (item_ways i)
-    × ((b : Before) (o : Open) → open_depth o ≡ d → read (wants b o) (cut_from xs at) ≡ read (has (add b i) o) (cut_from xs r.end))
-ItemRead xs at d (Err e) =
-    (b : Before) (o : Open) → open_depth o ≡ d → NoPair b o (cut_from xs at) → read (wants b o) (cut_from xs at) ≡ Err e
+abbrev pub ItemRead : Rest → (depth : ℕ) → Result Reading LineFault → Type 0
+ItemRead r d (Ok x) =
+    (i : Item) × Shows x.ways (item_ways i)
+    × ((b : Before) (o : Open) → open_depth o ≡ d → read (wants b o) (cut_rest r) ≡ read (has (add b i) o) (cut_rest x.rest))
+ItemRead r d (Err e) =
+    (b : Before) (o : Open) → open_depth o ≡ d → NoPair b o (cut_rest r) → read (wants b o) (cut_rest r) ≡ Err e
 
 -- From where a bracket was opened to where it has closed.
-abbrev pub InsideRead : List ℕ → (at depth : ℕ) → Bracket → Result Reading FormulaFault → Type 0
-InsideRead xs at d k (Ok r) =
-    (i : Item) × Shows xs r.ways (item_ways i)
+abbrev pub InsideRead : Rest → (depth : ℕ) → Bracket → Result Reading LineFault → Type 0
+InsideRead r d k (Ok x) =
+    (i : Item) × Shows x.ways (item_ways i)
     × ((b : Before) (o : Open) → open_depth (inside k b o) ≡ d →
-    read (wants nothing (inside k b o)) (cut_from xs at) ≡ read (has (add b i) o) (cut_from xs r.end))
-InsideRead xs at d k (Err e) =
-    (b : Before) (o : Open) → open_depth (inside k b o) ≡ d → read (wants nothing (inside k b o)) (cut_from xs at) ≡ Err e
+    read (wants nothing (inside k b o)) (cut_rest r) ≡ read (has (add b i) o) (cut_rest x.rest))
+InsideRead r d k (Err e) =
+    (b : Before) (o : Open) → open_depth (inside k b o) ≡ d → read (wants nothing (inside k b o)) (cut_rest r) ≡ Err e
 
 -- From where a formula is wanted to where it stands and does not go on.
-abbrev pub FormulaRead : List ℕ → (at depth : ℕ) → Result Reading FormulaFault → Type 0
-FormulaRead xs at d (Ok r) =
-    (f : Formula) × Shows xs r.ways (ways f) × Stopped f (cut_from xs r.end)
-    × ((o : Open) → open_depth o ≡ d → read (wants nothing o) (cut_from xs at) ≡ read (has f o) (cut_from xs r.end))
-FormulaRead xs at d (Err e) =
-    (o : Open) → open_depth o ≡ d → NoPair nothing o (cut_from xs at) → read (wants nothing o) (cut_from xs at) ≡ Err e
+abbrev pub FormulaRead : Rest → (depth : ℕ) → Result Reading LineFault → Type 0
+FormulaRead r d (Ok x) =
+    (f : Formula) × Shows x.ways (ways f) × Stopped f (cut_rest x.rest)
+    × ((o : Open) → open_depth o ≡ d → read (wants nothing o) (cut_rest r) ≡ read (has f o) (cut_rest x.rest))
+FormulaRead r d (Err e) =
+    (o : Open) → open_depth o ≡ d → NoPair nothing o (cut_rest r) → read (wants nothing o) (cut_rest r) ≡ Err e
 
 -- A row stands for a formula.
-abbrev pub StandsFor : List ℕ → Row → Formula → Type 0
-StandsFor xs r f = (r.join ≡ joined_by f) × Shows xs r.ways (ways f)
+abbrev pub StandsFor : Row → Formula → Type 0
+StandsFor w f = (w.join ≡ joined_by f) × Shows w.ways (ways f)
 
--- From where a formula stands to where one with an item more stands, or it does not go on.
-abbrev pub MoreRead : List ℕ → Row → (depth : ℕ) → Result (Option Row) FormulaFault → Type 0
-MoreRead xs w d (Ok (Some v)) =
-    (f : Formula) → StandsFor xs w f → (g : Formula) × StandsFor xs v g
-    × ((o : Open) → open_depth o ≡ d → read (has f o) (cut_from xs w.end) ≡ read (has g o) (cut_from xs v.end))
-MoreRead xs w d (Ok None) = (f : Formula) → StandsFor xs w f → Stopped f (cut_from xs w.end)
-MoreRead xs w d (Err e) =
-    (f : Formula) → StandsFor xs w f → (o : Open) → open_depth o ≡ d → read (has f o) (cut_from xs w.end) ≡ Err e
+-- A formula goes on with a mark, and with an item whose ways were read behind it.
+abbrev pub Joined : Next → Formula → Item → Type 0
+Joined n f i = (goes (joined_by f) n.mark ≡ true) × Shows n.ways (item_ways i)
+
+-- From where a formula stands that is joined by some mark to where one with an item more stands, or it does not go on.
+abbrev pub MoreRead : Rest → Option Join → (depth : ℕ) → Result (Option Next) LineFault → Type 0
+MoreRead r own d (Ok (Some n)) =
+    (i : Item) × ((f : Formula) → own ≡ joined_by f → Joined n f i
+    × ((o : Open) → open_depth o ≡ d → read (has f o) (cut_rest r) ≡ read (has (longer f n.mark i) o) (cut_rest n.rest)))
+MoreRead r own d (Ok None) = (f : Formula) → own ≡ joined_by f → Stopped f (cut_rest r)
+MoreRead r own d (Err e) =
+    (f : Formula) → own ≡ joined_by f → (o : Open) → open_depth o ≡ d → read (has f o) (cut_rest r) ≡ Err e
 
 -- The whole: the formula that is read, by its ways, or its fault.
-abbrev pub Parsed : List ℕ → Result Ways FormulaFault → Type 0
-Parsed xs (Ok w) = (f : Formula) × (reading xs ≡ Ok f) × Shows xs w (ways f)
+abbrev pub Parsed : List ℕ → Result (Option (ArrayVec Way)) LineFault → Type 0
+Parsed xs (Ok w) = (f : Formula) × (reading xs ≡ Ok f) × Shows w (ways f)
 Parsed xs (Err e) = reading xs ≡ Err e

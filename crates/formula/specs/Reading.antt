@@ -2,14 +2,14 @@
 use Rattle.std.specs.Prelude.{◌≡◌, ℕ, suc, ◌≤◌, cond, List, [], ◌∷◌, ◌++◌, Some, None, Ok, Err, Option, Result, ◌≢◌, nat_lt}
 use Rattle.refusal.specs.declared.Refusal.{Refusal}
 use Rattle.refusal.specs.declared.Refusal.TheVariants.{OutOfPlace, TooDeep}
-use Rattle.formula.specs.declared.fault.FormulaFault.{FormulaFault}
+use Rattle.refusal.specs.declared.fault.LineFault.{LineFault}
 use Rattle.formula.specs.declared.token.Join.{Join}
 use Rattle.formula.specs.declared.token.Join.TheVariants.{And, Or}
 use Rattle.formula.specs.declared.token.Bracket.{Bracket}
 use Rattle.formula.specs.declared.token.Bracket.TheVariants.{Round, Brace}
 use Rattle.formula.specs.Tokens.{Word, mark, open_with, close_with, connector}
 use Rattle.formula.specs.Formulas.{Formula, one, row, Item, named, empty, within, Items, first, then, tokens, depth}
-use Rattle.formula.specs.Faults.{fault}
+use Rattle.refusal.specs.Faults.{fault}
 use Rattle.formula.specs.Cuts.{Cut, ends, fails, token, cut}
 
 -- What stands of a formula before the item that is wanted: nothing, or items with the mark that joins them.
@@ -73,17 +73,17 @@ abbrev pub state_depth : State → ℕ
 state_depth (wants b o) = open_depth o
 state_depth (has f o) = open_depth o
 
-abbrev pub finished : State → ℕ → Result Formula FormulaFault
+abbrev pub finished : State → ℕ → Result Formula LineFault
 finished (wants b o) p = Err (fault p OutOfPlace)
 finished (has f top) p = Ok f
 finished (has f (inside k b o)) p = Err (fault p OutOfPlace)
 
 -- Brackets and braces are open at most 16 deep.
-abbrev pub judged : ℕ → Option State → (State → Result Formula FormulaFault) → Result Formula FormulaFault
+abbrev pub judged : ℕ → Option State → (State → Result Formula LineFault) → Result Formula LineFault
 judged p None rest = Err (fault p OutOfPlace)
 judged p (Some s) rest = cond (nat_lt 16 (state_depth s)) (Err (fault p TooDeep)) (rest s)
 
-unfoldable pub read : State → Cut → Result Formula FormulaFault
+unfoldable pub read : State → Cut → Result Formula LineFault
 read s (ends p) = finished s p
 read s (fails p r) = Err (fault p r)
 read s (token p w c) = judged p (step s w) (λ t. read t c)
@@ -92,7 +92,7 @@ abbrev pub start : State
 start = wants nothing top
 
 -- The reading of a formula's bytes.
-abbrev pub reading : List ℕ → Result Formula FormulaFault
+abbrev pub reading : List ℕ → Result Formula LineFault
 reading bytes = read start (cut bytes)
 
 -- What stands above the reading, in terms of trees and their tokens alone.
@@ -112,7 +112,7 @@ Allowed ws = (f : Formula) × ((more : List Word) × ((ws ++ more ≡ tokens f) 
 -- Which answer a cut gets: the formula whose tokens it is; or 13 at the first token with which the tokens so far can no
 -- more be continued, or at the end of tokens that could be but are no formula; or 14 at the first with which they can be
 -- continued only too deep; or what is wrong at the first place where there is no token.
-pub data Answer (c : Cut) : Result Formula FormulaFault → Type 0 where
+pub data Answer (c : Cut) : Result Formula LineFault → Type 0 where
   accepted : (f : Formula) (p : ℕ) → After c (tokens f) (ends p) → depth f ≤ 16 → Answer c (Ok f)
   misplaced : (ws : List Word) (p : ℕ) (w : Word) (d : Cut) → After c ws (token p w d) → Allowed ws →
       (Possible (ws ++ (w ∷ [])) → ⊥) → Answer c (Err (fault p OutOfPlace))
@@ -125,4 +125,4 @@ pub data Answer (c : Cut) : Result Formula FormulaFault → Type 0 where
 -- The reading is the one answer.
 abbrev pub RightAnswer : List ℕ → Type 0
 RightAnswer bytes =
-    Answer (cut bytes) (reading bytes) × ((r : Result Formula FormulaFault) → Answer (cut bytes) r → r ≡ reading bytes)
+    Answer (cut bytes) (reading bytes) × ((r : Result Formula LineFault) → Answer (cut bytes) r → r ≡ reading bytes)

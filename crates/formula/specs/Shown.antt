@@ -1,36 +1,31 @@
 -- Which ways the program's own tables show. A list of more than 8 connectors is known only to be too long, and more than 64
 -- ways are known only to be too many; both are refused in the end, but only once the whole formula is read.
-use Rattle.std.specs.Prelude.{◌≡◌, ℕ, ◌<◌, cond, List, ◌++◌, map, length, take, Some, None, Option, nat_lt}
+use Rattle.std.specs.Prelude.{◌≡◌, ℕ, ◌<◌, cond, List, ◌++◌, map, length, Some, None, Option, nat_lt}
+use Rattle.std.specs.Borrow.{Bor}
+use Rattle.std.specs.Option.{option_map}
+use Rattle.arrayvec.specs.ArrayVec.{ArrayVec}
 use Rattle.lexicon.specs.Lexicon.{Disjunct}
-use Rattle.formula.specs.declared.names.Names.{Names}
-use Rattle.formula.specs.declared.way.Half.{Half}
-use Rattle.formula.specs.declared.way.Half.TheVariants as HalfList
 use Rattle.formula.specs.declared.way.Way.{Way}
 use Rattle.formula.specs.declared.way.Disjunct.{Disjunct as Kept}
-use Rattle.formula.specs.declared.disjuncts.Disjuncts.{Disjuncts}
-use Rattle.formula.specs.declared.listing.Listing.{Listing}
-use Rattle.formula.specs.declared.ways.Ways.{Ways}
-use Rattle.formula.specs.declared.ways.Ways.TheVariants as all_ways
-use Rattle.formula.specs.Cuts.{name_there}
 use Rattle.formula.specs.Tokens.{Name}
 
-abbrev pub places_of : Names → List ℕ
-places_of n = take n.len n.places
+-- The names are lent from the formula.
+abbrev pub Lent : Type 0
+Lent = ArrayVec (Bor (List ℕ))
 
-abbrev pub names_of : List ℕ → Names → List Name
-names_of formula n = map (name_there formula) (places_of n)
+abbrev pub names_of : Lent → List Name
+names_of l = map (λ n. n.now) l.items
 
-abbrev pub half : List ℕ → Half → Option (List Name)
-half formula (HalfList.Listed n) = Some (names_of formula n)
-half formula HalfList.TooLong = None
+abbrev pub half : Option Lent → Option (List Name)
+half h = option_map names_of h
 
 -- A way as far as it can be shown.
 pub record Clipped : Type 0 where
   pub left : Option (List Name)
   pub right : Option (List Name)
 
-abbrev pub shown : List ℕ → Way → Clipped
-shown formula w = record { left = half formula w.left; right = half formula w.right }
+abbrev pub shown : Way → Clipped
+shown w = record { left = half w.left; right = half w.right }
 
 abbrev pub short : List Name → Option (List Name)
 short l = cond (nat_lt 8 (length l)) None (Some l)
@@ -47,20 +42,17 @@ half_glue None m = None
 abbrev pub clip_glue : Clipped → Clipped → Clipped
 clip_glue c d = record { left = half_glue c.left d.left; right = half_glue c.right d.right }
 
-abbrev pub items_of : Listing → List Way
-items_of l = take l.len l.items
-
-abbrev pub table : List ℕ → Listing → List Clipped
-table formula l = map (shown formula) (items_of l)
+abbrev pub table : ArrayVec Way → List Clipped
+table l = map shown l.items
 
 -- Every formula has at least one way.
-abbrev pub Shows : List ℕ → Ways → List (Disjunct Name) → Type 0
-Shows formula (all_ways.Listed l) ds = (0 < length ds) × (table formula l ≡ map clip ds)
-Shows formula all_ways.Many ds = 64 < length ds
+abbrev pub Shows : Option (ArrayVec Way) → List (Disjunct Name) → Type 0
+Shows (Some l) ds = (0 < length ds) × (table l ≡ map clip ds)
+Shows None ds = 64 < length ds
 
 -- The disjuncts that the program's table of them holds.
-abbrev pub disjunct_of : List ℕ → Kept → Disjunct Name
-disjunct_of formula d = record { left = names_of formula d.left; right = names_of formula d.right }
+abbrev pub disjunct_of : Kept → Disjunct Name
+disjunct_of d = record { left = names_of d.left; right = names_of d.right }
 
-abbrev pub disjuncts_of : List ℕ → Disjuncts → List (Disjunct Name)
-disjuncts_of formula t = map (disjunct_of formula) (take t.len t.items)
+abbrev pub disjuncts_of : ArrayVec Kept → List (Disjunct Name)
+disjuncts_of t = map disjunct_of t.items

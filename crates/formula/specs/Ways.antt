@@ -1,6 +1,7 @@
 -- What a formula means: its ways, in order, and the disjuncts that are kept of them.
-use Rattle.std.specs.Prelude.{◌≡◌, ℕ, ◌<◌, Bool, true, false, cond, ◌&&◌, ◌||◌, List, [], ◌∷◌, ◌++◌, map, length, Ok, Err, fold, Result, nat_lt, slice_index_or, refl}
-use Rattle.std.specs.List.{ContainsAt as Has, AllByRecursion}
+use Rattle.std.specs.Prelude.{◌≡◌, ℕ, ◌<◌, Bool, cond, ◌&&◌, ◌||◌, List, [], ◌∷◌, ◌++◌, map, length, Ok, Err, fold, Result, nat_lt, slice_index_or, refl}
+use Rattle.std.specs.List.{ContainsAt as Has, AllByRecursion, list_any}
+use Rattle.std.specs.Cmp.Lexicographic.{pointwise}
 use Rattle.std.specs.Str.{bytes_eq}
 use Rattle.lexicon.specs.Lexicon.{Disjunct, free}
 use Rattle.lexicon.specs.declared.side.Side.{Side}
@@ -56,17 +57,13 @@ unfoldable mutual
 
 -- Two ways are the same where their lists have the same names in the same order.
 abbrev pub same_names : List Name → List Name → Bool
-same_names [] [] = true
-same_names [] (n ∷ m) = false
-same_names (n ∷ l) [] = false
-same_names (n ∷ l) (k ∷ m) = bytes_eq n k && same_names l m
+same_names l m = pointwise bytes_eq l m
 
 abbrev pub same_way : Way → Way → Bool
 same_way d e = same_names d.left e.left && same_names d.right e.right
 
-unfoldable pub there : Way → List Way → Bool
-there d [] = false
-there d (e ∷ es) = same_way d e || there d es
+abbrev pub there : Way → List Way → Bool
+there d es = list_any (λ e. same_way e d) es
 
 -- A way is kept unless an equal one is there already.
 abbrev pub keep : List Way → Way → List Way
@@ -78,7 +75,6 @@ kept ds = fold keep [] ds
 
 kept_once : kept (asking Left (65 ∷ []) ∷ free ∷ asking Left (65 ∷ []) ∷ asking Right (65 ∷ []) ∷ []) ≡
     asking Left (65 ∷ []) ∷ free ∷ asking Right (65 ∷ []) ∷ []
-unfolding there
 kept_once = refl
 
 -- No two that are kept are equal, each of the ways is among them, and each of them is one of the ways. What is kept of
@@ -93,9 +89,8 @@ KeptOnce ds =
 abbrev pub long : Way → Bool
 long d = nat_lt 8 (length d.left) || nat_lt 8 (length d.right)
 
-unfoldable pub some_long : List Way → Bool
-some_long [] = false
-some_long (d ∷ ds) = long d || some_long ds
+abbrev pub some_long : List Way → Bool
+some_long ds = list_any long ds
 
 -- The disjuncts of a formula that has some ways, which are counted before equal ones are left out.
 abbrev pub fitted : List Way → Result (List Way) Refusal

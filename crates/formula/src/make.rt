@@ -1,75 +1,33 @@
-ghost use Rattle.std.specs.Prelude.{◌≡◌, ℕ, ◌+◌, ◌<◌, ◌≤◌, List, [], ◌∷◌, ◌++◌, map, MatchBool};
+ghost use Rattle.std.specs.Prelude.{◌≡◌, ◌+◌, ◌≤◌, List, [], ◌∷◌, ◌++◌, Some, map, length};
 ghost use Rattle.lexicon.specs.Lexicon.{Disjunct, free};
-ghost use Rattle.formula.specs.Cuts.{name_there};
-ghost use Rattle.formula.specs.Shown.{Shows, clip, half, half_glue, clip_glue, items_of, names_of, places_of, short, shown, table};
+ghost use Rattle.formula.specs.Shown.{Shows, clip, half, half_glue, clip_glue, names_of, short, shown, table};
 ghost use Rattle.formula.specs.Tokens.{Name};
-ghost use Rattle.formula.specs.Ways.{asking, joined as both, product as each_with_each};
+ghost use Rattle.formula.specs.Ways.{asking, bracketed as in_brackets, joined as both, product as each_with_each};
 
-use crate::listing::Listing;
-use crate::names::Names;
-use crate::token::Join;
-use crate::way::{Half, Way};
-use crate::ways::Ways;
+use crate::token::{Bracket, Join};
+use crate::way::{Listing, MOST_WAYS, Names, Way, Ways};
 use lexicon::side::Side;
 
-/// A formula has at most so many ways.
-const MOST_WAYS: usize = 64;
-
-/// A disjunct has at most so many connectors on one side.
-const LONGEST_LIST: usize = 8;
-
-fn too_many(ways: usize) -> bool
-    ensures { MatchBool result (64 < ways) (ways ≤ 64) }
+/// One list, then the other, unless that is too long.
+fn append<'a>(a: &Names<'a>, b: &Names<'a>) -> Option<Names<'a>>
+    ensures { half result ≡ short (names_of a.now ++ names_of b.now) }
 {
-    ways > MOST_WAYS
-}
-
-fn too_long(list: usize) -> bool
-    ensures { MatchBool result (8 < list) (list ≤ 8) }
-{
-    list > LONGEST_LIST
-}
-
-/// One connector more, farther from the word than the others.
-fn add(names: &mut Names, place: usize)
-    requires { names.old.len < 8 }
-    ensures places { places_of names.new ≡ places_of names.old ++ (place ∷ []) }
-    ensures longer { names.new.len ≡ names.old.len + 1 }
-{
-    names.places[names.len] = place;
-    names.len += 1;
-}
-
-/// One list, then the other.
-fn append(a: &Names, b: &Names) -> Half
-    ensures { (xs : List ℕ) → half xs result ≡ short (names_of xs a.now ++ names_of xs b.now) }
-{
-    if too_long(a.len + b.len) {
-        return Half::TooLong;
-    }
-    let mut both = *a;
-    for i in 0..b.len {
-        add(&mut both, b.places[i]);
-    }
-    Half::Listed(both)
+    let mut both = Names::new();
+    both.try_extend_from_slice(a).ok()?;
+    both.try_extend_from_slice(b).ok()?;
+    Some(both)
 }
 
 /// Two halves of one side; what is too long already does not get shorter.
-fn halves(a: &Half, b: &Half) -> Half
-    ensures { (xs : List ℕ) → half xs result ≡ half_glue (half xs a.now) (half xs b.now) }
+fn halves<'a>(a: &Option<Names<'a>>, b: &Option<Names<'a>>) -> Option<Names<'a>>
+    ensures { half result ≡ half_glue (half a.now) (half b.now) }
 {
-    let Half::Listed(x) = a else {
-        return Half::TooLong;
-    };
-    let Half::Listed(y) = b else {
-        return Half::TooLong;
-    };
-    append(x, y)
+    append(a.as_ref()?, b.as_ref()?)
 }
 
 /// Both ways at once.
-fn glued(x: &Way, y: &Way) -> Way
-    ensures { (xs : List ℕ) → shown xs result ≡ clip_glue (shown xs x.now) (shown xs y.now) }
+fn glued<'a>(x: &Way<'a>, y: &Way<'a>) -> Way<'a>
+    ensures { shown result ≡ clip_glue (shown x.now) (shown y.now) }
 {
     Way {
         left: halves(&x.left, &y.left),
@@ -77,134 +35,98 @@ fn glued(x: &Way, y: &Way) -> Way
     }
 }
 
-fn none() -> Half
-    ensures { (xs : List ℕ) → half xs result ≡ short [] }
-{
-    Half::Listed(Names {
-        len: 0,
-        places: [0; 8],
-    })
-}
-
-fn no_ways() -> Listing
-    ensures { result.len ≡ 0 }
-{
-    Listing {
-        len: 0,
-        items: [Way {
-            left: none(),
-            right: none(),
-        }; 64],
-    }
-}
-
-/// One way more, at the end.
-fn push(listing: &mut Listing, way: Way)
-    requires { listing.old.len < 64 }
-    ensures items { items_of listing.new ≡ items_of listing.old ++ (way ∷ []) }
-    ensures longer { listing.new.len ≡ listing.old.len + 1 }
-{
-    listing.items[listing.len] = way;
-    listing.len += 1;
-}
-
 /// One way joined with each of some ways.
-fn spread(listing: &mut Listing, way: &Way, others: &Listing)
-    requires { listing.old.len + others.now.len ≤ 64 }
-    ensures shows { (xs : List ℕ) → table xs listing.new ≡ table xs listing.old ++ map (clip_glue (shown xs way.now)) (table xs others.now) }
-    ensures longer { listing.new.len ≡ listing.old.len + others.now.len }
+fn spread<'a>(listing: &mut Listing<'a>, way: &Way<'a>, others: &Listing<'a>)
+    requires { length listing.old.items + length others.now.items ≤ 64 }
+    ensures { table listing.new ≡ table listing.old ++ map (clip_glue (shown way.now)) (table others.now) }
 {
-    for j in 0..others.len {
-        push(listing, glued(way, &others.items[j]));
+    for other in others.iter() {
+        listing.push(glued(way, other));
     }
 }
 
 /// The ways of two items that both count: one of each, the first varying slowest.
-fn product(a: &Listing, b: &Listing) -> Ways
-    ensures { (xs : List ℕ) (ds es : List (Disjunct Name)) → Shows xs (Ways.Listed a.now) ds → Shows xs (Ways.Listed b.now) es → Shows xs result (each_with_each ds es) }
+fn product<'a>(a: &Listing<'a>, b: &Listing<'a>) -> Ways<'a>
+    ensures { (ds es : List (Disjunct Name)) → Shows (Some a.now) ds → Shows (Some b.now) es → Shows result (each_with_each ds es) }
 {
-    if too_many(a.len * b.len) {
-        return Ways::Many;
+    if a.len() * b.len() > MOST_WAYS {
+        return None;
     }
-    let mut all = no_ways();
-    for i in 0..a.len {
-        spread(&mut all, &a.items[i], b);
+    let mut all = Listing::new();
+    for way in a.iter() {
+        spread(&mut all, way, b);
     }
-    Ways::Listed(all)
+    Some(all)
 }
 
 /// The ways of two items of which one counts: those of the first, then those of the second.
-fn either(a: &Listing, b: &Listing) -> Ways
-    ensures { (xs : List ℕ) (ds es : List (Disjunct Name)) → Shows xs (Ways.Listed a.now) ds → Shows xs (Ways.Listed b.now) es → Shows xs result (ds ++ es) }
+fn either<'a>(a: Listing<'a>, b: Listing<'a>) -> Ways<'a>
+    ensures { (ds es : List (Disjunct Name)) → Shows (Some a.entry) ds → Shows (Some b.entry) es → Shows result (ds ++ es) }
 {
-    if too_many(a.len + b.len) {
-        return Ways::Many;
+    if a.len() + b.len() > MOST_WAYS {
+        return None;
     }
-    let mut all = *a;
-    for i in 0..b.len {
-        push(&mut all, b.items[i]);
+    let mut all = a;
+    for way in b {
+        all.push(way);
     }
-    Ways::Listed(all)
+    Some(all)
 }
 
-fn single(way: Way) -> Ways
-    ensures { (xs : List ℕ) (d : Disjunct Name) → shown xs way ≡ clip d → Shows xs result (d ∷ []) }
+fn single<'a>(way: Way<'a>) -> Ways<'a>
+    ensures { (d : Disjunct Name) → shown way.entry ≡ clip d → Shows result (d ∷ []) }
 {
-    Ways::Listed(Listing {
-        len: 1,
-        items: [way; 64],
+    let mut listing = Listing::new();
+    listing.push(way);
+    Some(listing)
+}
+
+/// The one way of a connector.
+pub(crate) fn one<'a>(name: &'a [u8], side: Side) -> Ways<'a>
+    ensures { Shows result (asking side name.now ∷ []) }
+{
+    let mut list = Names::new();
+    list.push(name);
+    let (asked, none) = (Some(list), Some(Names::new()));
+    single(match side {
+        Side::Left => Way {
+            left: asked,
+            right: none,
+        },
+        Side::Right => Way {
+            left: none,
+            right: asked,
+        },
     })
 }
 
-/// The one way of a connector whose name stands at a place.
-pub(crate) fn one(place: usize, side: Side) -> Ways
-    ensures { (xs : List ℕ) → Shows xs result (asking side (name_there xs place) ∷ []) }
-{
-    let name = Half::Listed(Names {
-        len: 1,
-        places: [place; 8],
-    });
-    match side {
-        Side::Left => single(Way {
-            left: name,
-            right: none(),
-        }),
-        Side::Right => single(Way {
-            left: none(),
-            right: name,
-        }),
-    }
-}
-
 /// The one way of an empty pair of brackets.
-pub(crate) fn empty() -> Ways
-    ensures { (xs : List ℕ) → Shows xs result (free ∷ []) }
+pub(crate) fn empty<'a>() -> Ways<'a>
+    ensures { Shows result (free ∷ []) }
 {
     single(Way {
-        left: none(),
-        right: none(),
+        left: Some(Names::new()),
+        right: Some(Names::new()),
     })
 }
 
 /// The ways of two items that are joined. What has too many ways already does not get fewer, since no item has none.
-pub(crate) fn join(mark: Join, a: &Ways, b: &Ways) -> Ways
-    ensures { (xs : List ℕ) (ds es : List (Disjunct Name)) → Shows xs a.now ds → Shows xs b.now es → Shows xs result (both mark ds es) }
+pub(crate) fn join<'a>(mark: Join, a: Ways<'a>, b: Ways<'a>) -> Ways<'a>
+    ensures { (ds es : List (Disjunct Name)) → Shows a.entry ds → Shows b.entry es → Shows result (both mark ds es) }
 {
-    let Ways::Listed(x) = a else {
-        return Ways::Many;
-    };
-    let Ways::Listed(y) = b else {
-        return Ways::Many;
-    };
+    let (x, y) = (a?, b?);
     match mark {
-        Join::And => product(x, y),
+        Join::And => product(&x, &y),
         Join::Or => either(x, y),
     }
 }
 
-/// The ways of what stands in braces: those inside, then the empty one.
-pub(crate) fn optional(inside: &Ways) -> Ways
-    ensures { (xs : List ℕ) (ds : List (Disjunct Name)) → Shows xs inside.now ds → Shows xs result (ds ++ (free ∷ [])) }
+/// The ways of what stands in brackets; braces add the empty one, last.
+pub(crate) fn bracketed<'a>(bracket: Bracket, inside: Ways<'a>) -> Ways<'a>
+    ensures { (ds : List (Disjunct Name)) → Shows inside.entry ds → Shows result (in_brackets bracket ds) }
 {
-    join(Join::Or, inside, &empty())
+    match bracket {
+        Bracket::Round => inside,
+        Bracket::Brace => join(Join::Or, inside, empty()),
+    }
 }

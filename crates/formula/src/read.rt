@@ -1,99 +1,112 @@
-ghost use Rattle.std.specs.Prelude.{◌≡◌, ◌<◌, ◌≤◌, length, IfSome, IfOk};
-ghost use Rattle.formula.specs.Cuts.{cut_from};
-ghost use Rattle.formula.specs.Progress.{goes, Further, Closing, EmptyPair, ItemRead, FormulaRead, InsideRead, MoreRead, Parsed};
+ghost use Rattle.std.specs.Prelude.{◌≡◌, ◌<◌, length, IfSome, IfOk};
+ghost use Rattle.formula.specs.Progress.{goes, Further, Closing, EmptyPair, ItemRead, FormulaRead, InsideRead, MoreRead, Parsed, StandsFor, Joined};
+ghost use Rattle.formula.specs.Formulas.{Formula, Item, longer as with_item};
 
-use crate::cut::next;
-use crate::fault::FormulaFault;
-use crate::make::{empty, join, one, optional};
-use crate::row::{Reading, Row};
+use crate::depth::Depth;
+use crate::make::{bracketed, empty, join, one};
+use crate::rest::Rest;
 use crate::token::{Bracket, Join, Token};
-use crate::ways::Ways;
+use crate::way::Ways;
 use refusal::Refusal;
+use refusal::fault::LineFault;
 
-/// Brackets and braces are open at most so deep.
-const DEEPEST: usize = 16;
+/// What was read, and what is left behind it.
+#[derive(Drop)]
+pub struct Reading<'a> {
+    pub ways: Ways<'a>,
+    pub rest: Rest<'a>,
+}
+
+/// A formula that may go on: the mark that joins its items, once it has two.
+#[derive(Drop)]
+pub struct Row<'a> {
+    pub ways: Ways<'a>,
+    pub join: Option<Join>,
+    pub rest: Rest<'a>,
+}
+
+/// A mark and the item behind it, and what is left behind both.
+#[derive(Drop)]
+pub struct Next<'a> {
+    pub mark: Join,
+    pub ways: Ways<'a>,
+    pub rest: Rest<'a>,
+}
 
 /// Whether a formula goes on with a mark: one item with either, a row only with its own.
 fn goes_on(join: Option<Join>, mark: Join) -> bool
     ensures { result ≡ goes join mark }
 {
-    match (join, mark) {
-        (None, _) => true,
-        (Some(Join::And), Join::And) => true,
-        (Some(Join::Or), Join::Or) => true,
-        (Some(Join::And), Join::Or) => false,
-        (Some(Join::Or), Join::And) => false,
+    match join {
+        None => true,
+        Some(own) => own == mark,
     }
 }
 
-/// Where the bracket that must close at a place has ended.
-fn closing(formula: &[u8], at: usize, bracket: Bracket) -> Result<usize, FormulaFault>
-    requires { at ≤ length formula.now }
-    ensures reads { Closing formula.now bracket at result }
-    ensures on { IfOk result (λ end. (at < end) × (end ≤ length formula.now)) }
+/// What is left behind the bracket that must close next.
+fn closing<'a>(rest: Rest<'a>, bracket: Bracket) -> Result<Rest<'a>, LineFault>
+    ensures reads { Closing rest.entry bracket result }
+    ensures on { IfOk result (λ r. length r.bytes.now < length rest.entry.bytes.now) }
 {
-    let Some(placed) = next(formula, at)? else {
-        return Err(FormulaFault {
-            place: formula.len(),
+    let Some(placed) = rest.next()? else {
+        return Err(LineFault {
+            place: rest.end(),
             refusal: Refusal::OutOfPlace,
         });
     };
-    match (placed.token, bracket) {
-        (Token::Close(Bracket::Round), Bracket::Round) => Ok(placed.end),
-        (Token::Close(Bracket::Brace), Bracket::Brace) => Ok(placed.end),
-        _ => Err(FormulaFault {
+    match placed.token {
+        Token::Close(closed) if closed == bracket => Ok(placed.rest),
+        _ => Err(LineFault {
             place: placed.at,
             refusal: Refusal::OutOfPlace,
         }),
     }
 }
 
-/// Where a round bracket that closes at once has ended, if it does.
-fn empty_pair(formula: &[u8], at: usize, bracket: Bracket) -> Result<Option<usize>, FormulaFault>
-    requires { at ≤ length formula.now }
-    ensures reads { EmptyPair formula.now bracket at result }
-    ensures on { IfOk result (λ o. IfSome o (λ end. (at < end) × (end ≤ length formula.now))) }
+/// What is left behind a round bracket that closes at once, if it does.
+fn empty_pair<'a>(rest: Rest<'a>, bracket: Bracket) -> Result<Option<Rest<'a>>, LineFault>
+    ensures reads { EmptyPair rest.entry bracket result }
+    ensures on { IfOk result (λ o. IfSome o (λ r. length r.bytes.now < length rest.entry.bytes.now)) }
 {
     let Bracket::Round = bracket else {
         return Ok(None);
     };
-    let Some(placed) = next(formula, at)? else {
+    let Some(placed) = rest.next()? else {
         return Ok(None);
     };
     match placed.token {
-        Token::Close(Bracket::Round) => Ok(Some(placed.end)),
+        Token::Close(Bracket::Round) => Ok(Some(placed.rest)),
         _ => Ok(None),
     }
 }
 
 /// A connector, an empty pair, or a formula in brackets.
-#[cycle(formula_at_inside_at_item_at_more_of)]
-fn item_at(formula: &[u8], at: usize, depth: usize) -> Result<Reading, FormulaFault>
-    requires { (at ≤ length formula.now) × (depth ≤ 16) }
-    ensures reads { ItemRead formula.now at depth result }
-    ensures on { Further formula.now at result }
+#[cycle(readers)]
+fn item_at<'a>(rest: Rest<'a>, depth: Depth) -> Result<Reading<'a>, LineFault>
+    ensures reads { ItemRead rest.entry depth.count result }
+    ensures on { Further rest.entry result }
 {
-    let Some(placed) = next(formula, at)? else {
-        return Err(FormulaFault {
-            place: formula.len(),
+    let Some(placed) = rest.next()? else {
+        return Err(LineFault {
+            place: rest.end(),
             refusal: Refusal::OutOfPlace,
         });
     };
     match placed.token {
-        Token::Connector { name: _, side } => Ok(Reading {
-            ways: one(placed.at, side),
-            end: placed.end,
+        Token::Connector { name, side } => Ok(Reading {
+            ways: one(name, side),
+            rest: placed.rest,
         }),
         Token::Open(bracket) => {
-            if depth >= DEEPEST {
-                return Err(FormulaFault {
+            let Some(deeper) = depth.deeper() else {
+                return Err(LineFault {
                     place: placed.at,
                     refusal: Refusal::TooDeep,
                 });
-            }
-            inside_at(formula, placed.end, depth + 1, bracket)
+            };
+            inside_at(placed.rest, deeper, bracket)
         }
-        _ => Err(FormulaFault {
+        _ => Err(LineFault {
             place: placed.at,
             refusal: Refusal::OutOfPlace,
         }),
@@ -101,88 +114,93 @@ fn item_at(formula: &[u8], at: usize, depth: usize) -> Result<Reading, FormulaFa
 }
 
 /// What stands inside a bracket that was opened, with the bracket that closes it.
-#[cycle(formula_at_inside_at_item_at_more_of)]
-fn inside_at(
-    formula: &[u8],
-    at: usize,
-    depth: usize,
-    bracket: Bracket,
-) -> Result<Reading, FormulaFault>
-    requires { (at ≤ length formula.now) × (depth ≤ 16) }
-    ensures reads { InsideRead formula.now at depth bracket result }
-    ensures on { Further formula.now at result }
+#[cycle(readers)]
+fn inside_at<'a>(rest: Rest<'a>, depth: Depth, bracket: Bracket) -> Result<Reading<'a>, LineFault>
+    ensures reads { InsideRead rest.entry depth.count bracket result }
+    ensures on { Further rest.entry result }
 {
-    if let Some(end) = empty_pair(formula, at, bracket)? {
-        return Ok(Reading { ways: empty(), end });
+    if let Some(behind) = empty_pair(rest, bracket)? {
+        return Ok(Reading {
+            ways: empty(),
+            rest: behind,
+        });
     }
-    let inside = formula_at(formula, at, depth)?;
-    let end = closing(formula, inside.end, bracket)?;
-    match bracket {
-        Bracket::Round => Ok(Reading {
-            ways: inside.ways,
-            end,
-        }),
-        Bracket::Brace => Ok(Reading {
-            ways: optional(&inside.ways),
-            end,
-        }),
-    }
+    let inside = formula_at(rest, depth)?;
+    let behind = closing(inside.rest, bracket)?;
+    Ok(Reading {
+        ways: bracketed(bracket, inside.ways),
+        rest: behind,
+    })
 }
 
-/// The next item of a row with the mark before it, if the row goes on.
-#[cycle(formula_at_inside_at_item_at_more_of)]
-fn more_of(formula: &[u8], row: &Row, depth: usize) -> Result<Option<Row>, FormulaFault>
-    requires { (row.now.end ≤ length formula.now) × (depth ≤ 16) }
-    ensures reads { MoreRead formula.now row.now depth result }
-    ensures on { IfOk result (λ o. IfSome o (λ s. (row.now.end < s.end) × (s.end ≤ length formula.now))) }
+/// The mark that comes next and the item behind it, if the row goes on with that mark.
+#[cycle(readers)]
+fn more_of<'a>(
+    rest: Rest<'a>,
+    own: Option<Join>,
+    depth: Depth,
+) -> Result<Option<Next<'a>>, LineFault>
+    ensures reads { MoreRead rest.entry own depth.count result }
+    ensures on { IfOk result (λ o. IfSome o (λ n. length n.rest.bytes.now < length rest.entry.bytes.now)) }
 {
-    let Some(placed) = next(formula, row.end)? else {
+    let Some(placed) = rest.next()? else {
         return Ok(None);
     };
     let Token::Mark(mark) = placed.token else {
         return Ok(None);
     };
-    if !goes_on(row.join, mark) {
+    if !goes_on(own, mark) {
         return Ok(None);
     }
-    let item = item_at(formula, placed.end, depth)?;
-    Ok(Some(Row {
-        ways: join(mark, &row.ways, &item.ways),
-        join: Some(mark),
-        end: item.end,
+    let item = item_at(placed.rest, depth)?;
+    Ok(Some(Next {
+        mark,
+        ways: item.ways,
+        rest: item.rest,
     }))
 }
 
-/// One item, or items that are all joined by one mark.
-#[cycle(formula_at_inside_at_item_at_more_of)]
-fn formula_at(formula: &[u8], at: usize, depth: usize) -> Result<Reading, FormulaFault>
-    requires { (at ≤ length formula.now) × (depth ≤ 16) }
-    ensures reads { FormulaRead formula.now at depth result }
-    ensures on { Further formula.now at result }
+/// A row with one item more.
+fn longer<'a>(row: Row<'a>, next: Next<'a>) -> Row<'a>
+    ensures joins { (f : Formula) (i : Item) → StandsFor row.entry f → Joined next.entry f i → StandsFor result (with_item f next.entry.mark i) }
+    ensures rest { result.rest ≡ next.entry.rest }
 {
-    let first = item_at(formula, at, depth)?;
+    Row {
+        ways: join(next.mark, row.ways, next.ways),
+        join: Some(next.mark),
+        rest: next.rest,
+    }
+}
+
+/// One item, or items that are all joined by one mark.
+#[cycle(readers)]
+fn formula_at<'a>(rest: Rest<'a>, depth: Depth) -> Result<Reading<'a>, LineFault>
+    ensures reads { FormulaRead rest.entry depth.count result }
+    ensures on { Further rest.entry result }
+{
+    let first = item_at(rest, depth)?;
     let mut row = Row {
         ways: first.ways,
         join: None,
-        end: first.end,
+        rest: first.rest,
     };
-    while let Some(longer) = more_of(formula, &row, depth)? {
-        row = longer;
+    while let Some(next) = more_of(row.rest, row.join, depth)? {
+        row = longer(row, next);
     }
     Ok(Reading {
         ways: row.ways,
-        end: row.end,
+        rest: row.rest,
     })
 }
 
 /// The ways of a whole formula.
-pub fn parse(formula: &[u8]) -> Result<Ways, FormulaFault>
+pub fn parse<'a>(formula: &'a [u8]) -> Result<Ways<'a>, LineFault>
     ensures { Parsed formula.now result }
 {
-    let whole = formula_at(formula, 0, 0)?;
-    match next(formula, whole.end)? {
+    let whole = formula_at(Rest::of(formula), Depth::top())?;
+    match whole.rest.next()? {
         None => Ok(whole.ways),
-        Some(placed) => Err(FormulaFault {
+        Some(placed) => Err(LineFault {
             place: placed.at,
             refusal: Refusal::OutOfPlace,
         }),

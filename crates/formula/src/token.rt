@@ -1,3 +1,6 @@
+ghost use Rattle.std.specs.Prelude.{◌≡◌, ◌^◌, ◌<◌, length};
+ghost use Rattle.formula.specs.Tokens.{said, spelled};
+
 use lexicon::side::Side;
 
 /// What joins the items of a formula.
@@ -14,15 +17,8 @@ pub enum Bracket {
     Brace,
 }
 
-/// The letters of a connector's name: capitals first, then small letters, of which `*` stands for any.
-#[derive(Clone, Copy)]
-pub enum Letter {
-    Capital,
-    Small,
-}
-
 /// A token, which borrows a connector's name from the formula.
-#[derive(Clone, Copy)]
+#[derive(Clone, Copy, PartialEq, Eq, Debug)]
 pub enum Token<'a> {
     Mark(Join),
     Open(Bracket),
@@ -30,10 +26,16 @@ pub enum Token<'a> {
     Connector { name: &'a [u8], side: Side },
 }
 
-/// A token with the places in the formula where it begins and where it has ended.
-#[derive(Clone, Copy)]
-pub struct Placed<'a> {
-    pub token: Token<'a>,
-    pub at: usize,
-    pub end: usize,
+impl<'a> Token<'a> {
+    /// How many bytes of the formula it takes.
+    pub(crate) fn len(&self) -> usize
+        requires { length (spelled (said self.now)) < 2 ^ 64 }
+        ensures { result ≡ length (spelled (said self.now)) }
+    {
+        match *self {
+            Token::Mark(Join::Or) => 2,
+            Token::Connector { name, side: _ } => name.len() + 1,
+            _ => 1,
+        }
+    }
 }

@@ -1,7 +1,5 @@
-use Rattle.std.proofs.Common.{◌≡◌, ◌+◌, ◌++◌, take}
-use Rattle.formula.specs.Shown.{items_of}
+use Rattle.std.proofs.Common.{◌≡◌, ◌++◌}
 use Rattle.formula.proofs.make.either.Given as goal
 
-abbrev pub invariant-loop-i : goal.invariant-loop-i
-invariant-loop-i l =
-    (l.all.len ≡ l.a.len + l.i) × (items_of l.all ≡ items_of l.a ++ take l.i l.b.items)
+abbrev pub invariant-loop-way : goal.invariant-loop-way
+invariant-loop-way l = l.all.items ≡ l.initial.all.items ++ l.yielded

@@ -1,47 +1,33 @@
-use Rattle.std.proofs.Common.{◌≡◌, ◌<◌, [], ◌∷◌, ◌++◌, map, length, get_or, take, sym, ap, ◌∙◌, append-nil, arith}
-use mathlib.Core.List.{map-append}
-use lib.ListN.{length-map}
-use Rattle.std.proofs.lemmas.List.{get_or-map, take-map}
-use Rattle.formula.specs.Shown.{Clipped, clip_glue, items_of, shown, table}
-use Rattle.formula.proofs.Tables.{copied_more}
+use Rattle.std.proofs.Common.{◌≡◌, ◌<◌, ◌≤◌, [], ◌∷◌, ◌++◌, map, length, get_or, take, take_all, sym, ap, ◌∙◌, append_assoc, arith}
+use Rattle.std.proofs.lemmas.List.{map_more, map_push}
+use Rattle.formula.specs.declared.way.Way.{Way}
+use Rattle.formula.specs.Shown.{Clipped, clip_glue, shown, table}
+use Rattle.formula.proofs.Tables.{map_both}
 use Rattle.formula.proofs.make.spread.Goals as goal
 
-pub loop-j-init : goal.loop-j-init
-loop-j-init c = (omega arith, λ xs. sym (append-nil (table xs c.args.listing.now)))
-
-pub loop-j-preserved : goal.loop-j-preserved
-loop-j-preserved c = (
-  omega arith,
-  λ xs.
-      let was = c.loop-j.listing
-      in let after = c.push.new.listing
-      in let items = c.args.others.now.items
-      in let j = c.loop-j.j
-      in let h : j < length items = omega arith
-      in let m = length-map items (shown xs)
-      in let each = clip_glue (shown xs c.args.way.now)
-      in let n = length-map (map (shown xs) items) each
-      in let y = c.index-others-j.result
-      in let there : shown xs c.glued.result ≡ get_or (map each (map (shown xs) items)) j (shown xs y) =
-      let both : shown xs c.glued.result ≡ each (shown xs (get_or items j y)) = c.glued.ensures xs
-      in both ∙ ap each (sym (get_or-map (shown xs) items j y (shown xs y) h))
-      ∙ sym (get_or-map each (map (shown xs) items) j (shown xs y) (shown xs y) (omega arith))
-      in copied_more (table xs c.args.listing.now) (map each (map (shown xs) items)) (table xs was) (table xs after) j (shown xs y) (omega arith)
-      (c.loop-j.invariant.1 xs)
-      (ap (map (shown xs)) c.push.ensures.items ∙ map-append (shown xs) (items_of was) (c.glued.result ∷ [])
-      ∙ ap (λ (v : Clipped). table xs was ++ (v ∷ [])) there),
-)
+pub loop-other-preserved : goal.loop-other-preserved
+loop-other-preserved c =
+    let xs = c.args.others.now.items in
+    let i = c.loop-other.other-index in
+    let y = c.other-item.result in
+    let old = table c.args.listing.now in
+    let f : Way → Clipped = λ o. clip_glue (shown c.args.way.now) (shown o) in
+    let h : i < length xs = omega (arith, ap length c.deref-other-items.ensures.0) in
+    let here : get_or xs i y ≡ y = ap (λ l. get_or l i y) (sym c.deref-other-items.ensures.0) ∙ sym c.other-item.is in
+    let there : shown c.glued.result ≡ f (get_or xs i y) = c.glued.ensures ∙ ap f (sym here) in (
+      omega (arith, c.push.ensures.len),
+      ap (map shown) c.push.ensures.items ∙ map_push shown c.loop-other.listing.items c.glued.result
+          ∙ ap (λ (s : Clipped). table c.loop-other.listing ++ (s ∷ [])) there
+          ∙ ap (λ t. t ++ (f (get_or xs i y) ∷ [])) c.loop-other.invariant.1
+          ∙ append_assoc old (map f (take i xs)) (f (get_or xs i y) ∷ [])
+          ∙ ap (λ t. old ++ t) (sym (map_more f xs i y h)),
+    )
 
 pub returns : goal.returns
 returns c =
-    let others = c.args.others.now
-    in let e : c.loop-j.j ≡ others.len = omega arith
-    in record {
-      shows = λ xs.
-          let each = clip_glue (shown xs c.args.way.now)
-          in c.loop-j.invariant.1 xs
-          ∙ ap (λ j. table xs c.args.listing.now ++ take j (map each (map (shown xs) others.items))) e
-          ∙ ap (λ cs. table xs c.args.listing.now ++ cs)
-          (take-map each others.len (map (shown xs) others.items) ∙ ap (map each) (take-map (shown xs) others.len others.items));
-      longer = omega arith;
-    }
+    let xs = c.args.others.now.items in
+    let old = table c.args.listing.now in
+    let f : Way → Clipped = λ o. clip_glue (shown c.args.way.now) (shown o) in
+    let h : length xs ≤ c.loop-other.other-index = omega (arith, ap length c.deref-other-items.ensures.0) in
+    c.loop-other.invariant.1 ∙ ap (λ l. old ++ map f l) (take_all c.loop-other.other-index xs h)
+    ∙ ap (λ l. old ++ l) (map_both (clip_glue (shown c.args.way.now)) shown xs)

@@ -1,8 +1,8 @@
-use Rattle.std.proofs.Common.{◌≡◌, ℕ, ◌+◌, List, ◌++◌, map, take}
+use Rattle.std.proofs.Common.{◌≡◌, ◌+◌, ◌++◌, map, length, take}
 use Rattle.formula.specs.Shown.{clip_glue, shown, table}
 use Rattle.formula.proofs.make.spread.Given as goal
 
-abbrev pub invariant-loop-j : goal.invariant-loop-j
-invariant-loop-j l =
-    (l.listing.len ≡ l.initial.listing.len + l.j)
-    × ((xs : List ℕ) → table xs l.listing ≡ table xs l.initial.listing ++ take l.j (map (clip_glue (shown xs l.way)) (map (shown xs) l.others.items)))
+abbrev pub invariant-loop-other : goal.invariant-loop-other
+invariant-loop-other l =
+    (length l.listing.items ≡ length l.initial.listing.items + l.other-index)
+    × (table l.listing ≡ table l.initial.listing ++ map (λ o. clip_glue (shown l.way) (shown o)) (take l.other-index l.others.items))
