@@ -1,18 +1,13 @@
 -- Names match when their capitals are equal and their letters agree place by place.
-use Rattle.std.proofs.Common.{◌≡◌, ℕ, zero, suc, ◌+◌, ◌-◌, ◌≤◌, true, ◌||◌, eqb, List, [], ◌∷◌, length, get_or, Decides, sym, refl, ap, ◌∙◌, subst, inl, inr, ⊎_elim, arith}
+use Rattle.std.proofs.Common.{◌≡◌, ℕ, zero, suc, ◌+◌, ◌-◌, true, ◌||◌, eqb, List, [], ◌∷◌, length, get_or, Decides, sym, refl, ap, ◌∙◌, subst, inl, inr, ⊎_elim, arith}
 use Rattle.std.proofs.lemmas.List.{get_or-drop, length-take-le}
-use Rattle.std.proofs.lemmas.Bool.{and_from, and_parts, eq-eqb, eqb-true, or_cases, or_left, or_right, cond_both}
-use Rattle.formula.specs.Cuts.{capital, run}
+use Rattle.std.proofs.lemmas.Bool.{and_from, and_parts, eq-eqb, eqb-true, or_cases, or_left, or_right}
+use Rattle.std.specs.List.{prefix_len}
+use Rattle.std.proofs.lemmas.List.Sums.{prefix_len-le-length}
+use Rattle.formula.specs.Cuts.{capital}
 use Rattle.formula.specs.Tokens.{Name}
 use Rattle.written.specs.Matching.{Agree, Matching, agree, capitals, ending, endings_match, names_match, same}
 use Rattle.written.proofs.Known.{eq_same, same_eq}
-
-run_le : (xs : List ℕ) → run capital xs ≤ length xs
-unfolding run
-run_le [] = omega arith
-run_le (x ∷ xs) =
-    let r = run_le xs in
-    cond_both (capital x) (suc (run capital xs)) 0 (λ n. n ≤ suc (length xs)) (λ _. omega arith) (λ _. omega arith)
 
 -- Letters that agree.
 agree_said : (x y : ℕ) → agree x y ≡ true → Agree x y
@@ -42,19 +37,19 @@ said_endings (x ∷ xs) (y ∷ ys) h =
     and_from (agree x y) (endings_match xs ys) (said_agree x y (h 0)) (said_endings xs ys (λ j. h (suc j)))
 
 module _ (a b : Name) where
-  same_count : capitals a ≡ capitals b → run capital a ≡ run capital b
+  same_count : capitals a ≡ capitals b → prefix_len capital a ≡ prefix_len capital b
   same_count e =
       let n = ap length e in
-      let la = length-take-le (run capital a) a (run_le a) in
-      let lb = length-take-le (run capital b) b (run_le b) in
+      let la = length-take-le (prefix_len capital a) a (prefix_len-le-length capital a) in
+      let lb = length-take-le (prefix_len capital b) b (prefix_len-le-length capital b) in
       omega arith
 
   said : names_match a b ≡ true → Matching a b
   said h =
       let (p, q) = and_parts (same (capitals a) (capitals b)) (endings_match (ending a) (ending b)) h in
       let e = same_eq (capitals a) (capitals b) p in
-      let m = run capital a in
-      let n = run capital b in
+      let m = prefix_len capital a in
+      let n = prefix_len capital b in
       let mn = same_count e in (
         e,
         λ i l.
@@ -68,8 +63,8 @@ module _ (a b : Name) where
 
   unsaid : Matching a b → names_match a b ≡ true
   unsaid (e, h) =
-      let m = run capital a in
-      let n = run capital b in
+      let m = prefix_len capital a in
+      let n = prefix_len capital b in
       let mn = same_count e in
       and_from (same (capitals a) (capitals b)) (endings_match (ending a) (ending b)) (eq_same (capitals a) (capitals b) e)
       (said_endings (ending a) (ending b)

@@ -1,17 +1,9 @@
 -- What entering a line's words makes of a book, by the tests that it passes, and of the store that holds the book.
-use Rattle.std.proofs.Common.{◌≡◌, ℕ, zero, suc, ◌+◌, ◌<◌, ◌≤◌, Bool, true, false, cond, ◌||◌, ltb, List, [], ◌∷◌, map, length, get_or, take, Ok, Err, refl, ap, ◌∙◌, arith, length-append, le-ltb, lt-ltb}
+use Rattle.std.proofs.Common.{◌≡◌, ℕ, zero, suc, ◌+◌, ◌<◌, ◌≤◌, Bool, true, false, cond, ◌||◌, ltb, List, [], ◌∷◌, map, length, get_or, Ok, Err, refl, ap, ◌∙◌, arith, length-append, le-ltb, lt-ltb}
 use lib.ListN.{length-map}
 use Rattle.std.specs.List.{AllByRecursion}
 use Rattle.refusal.specs.declared.Refusal.TheVariants.{WordTaken, TableShort}
-use Rattle.lexicon.specs.Lexicon.{free, side_of}
-use Rattle.lexicon.specs.declared.side.Side.{Side}
-use Rattle.lexicon.specs.declared.side.Side.TheVariants.{Left, Right}
-use Rattle.formula.specs.declared.disjuncts.Disjuncts.{Disjuncts}
-use Rattle.formula.specs.declared.way.Disjunct.{Disjunct as Kept}
-use Rattle.formula.specs.Shown.{disjunct_of, disjuncts_of}
-use Rattle.formula.specs.Tokens.{Name}
 use Rattle.formula.specs.Ways.{Way}
-use Rattle.formula.proofs.Tables.{length_names}
 use Rattle.written.specs.Drafts.{Book, entered, with_words}
 use Rattle.refusal.specs.Faults.{of_line}
 use Rattle.written.specs.Lines.{any_known}
@@ -62,23 +54,3 @@ pub all_at : {X : Type 0} (P : X → Type 0) (d : X) → P d → (xs : List X) �
 all_at P d n [] h i = n
 all_at P d n (x ∷ xs) h zero = h.0
 all_at P d n (x ∷ xs) h (suc i) = all_at P d n xs h.1 i
-
--- The lists of a table of disjuncts are short.
-pub short_lists : (xs : List ℕ) (t : Disjuncts) (k : ℕ) (s : Side) → length (side_of (get_or (disjuncts_of xs t) k free) s) ≤ 8
-short_lists xs t k s = go (take t.len t.items) k
-  where
-    half : (d : Kept) → length (side_of (disjunct_of xs d) s) ≤ 8
-    half d = two s
-      where
-        two : (s : Side) → length (side_of (disjunct_of xs d) s) ≤ 8
-        two Left = let e = length_names xs d.left in omega (arith, d.left.few)
-        two Right = let e = length_names xs d.right in omega (arith, d.right.few)
-
-    none : (s : Side) → length (side_of {C = Name} free s) ≤ 8
-    none Left = omega arith
-    none Right = omega arith
-
-    go : (ds : List Kept) (k : ℕ) → length (side_of (get_or (map (disjunct_of xs) ds) k free) s) ≤ 8
-    go [] k = none s
-    go (d ∷ ds) zero = half d
-    go (d ∷ ds) (suc k) = go ds k

@@ -1,8 +1,9 @@
 -- What is read from a table is what the store holds: cells within the front, words by their rows and names by their marks.
-use Rattle.std.proofs.Common.{◌≡◌, ℕ, suc, ◌+◌, ◌<◌, ◌≤◌, Bool, true, false, cond, ◌&&◌, ◌||◌, eqb, List, [], ◌∷◌, map, length, get_or, take, drop, Some, None, sym, refl, ap, ◌∙◌, subst, ap₂, ⊎_elim, add-zero, arith}
+use Rattle.std.proofs.Common.{◌≡◌, ℕ, zero, suc, ◌+◌, ◌<◌, ◌≤◌, Bool, true, false, cond, ◌&&◌, ◌||◌, eqb, List, [], ◌∷◌, map, length, get_or, take, drop, Some, None, unwrap_or, is_some, sym, refl, ap, ◌∙◌, subst, ap₂, ⊎_elim, add-zero, arith}
 use lib.ListN.{length-map}
+use Rattle.std.specs.List.{position_from, range_with_len}
 use Rattle.std.proofs.lemmas.List.{get_or-take, get_or-drop, get_or-map, drop_more, drop_all, drop-drop, take-append-drop, length-take-le}
-use Rattle.std.proofs.lemmas.Bool.{cond-true, cond-false, cases_Bool, true≢false, false≢true, eqb-true, eqb-false, eq-eqb, ne_eqb}
+use Rattle.std.proofs.lemmas.Bool.{cases_Bool, true≢false, false≢true, eqb-true, eqb-false, eq-eqb, ne_eqb}
 use Rattle.formula.specs.Tokens.{Name}
 use Rattle.written.specs.Kept.{getD_counted, length_counted}
 use Rattle.written.specs.Matching.{same}
@@ -91,27 +92,38 @@ pub length_entries : (T : List ℕ) (used words : ℕ) → length (model (store 
 length_entries T used words =
     length-map (counted (row_at T) 0 words) (entry_of (take used T)) ∙ length_counted (row_at T) 0 words
 
--- Looking for a word, entry by entry.
-module _ (es : List Entry) (w : List ℕ) (k : ℕ) where
-  next_entry : k < length es → find_from k (drop k es) w
-      ≡ cond (same (get_or es k no_entry).word w) k (find_from (k + 1) (drop (k + 1) es) w)
-  unfolding find_from
-  next_entry h =
-      let e : suc k ≡ k + 1 = omega arith in
-      ap (λ l. find_from k l w) (drop_more es k no_entry h)
-      ∙ ap (λ j. cond (same (get_or es k no_entry).word w) k (find_from j (drop (k + 1) es) w)) e
+-- What a search by place gives is what a search of the list gives.
+pub searched : {X : Type 0} (p : X → Bool) (test : ℕ → Bool) (d : X) (xs : List X) (k : ℕ) → ((j : ℕ) → test (k + j) ≡ p (get_or xs j d)) →
+    position_from test k (range_with_len k (length xs)) ≡ position_from p k xs
+searched p test d [] k h = refl
+searched p test d (x ∷ xs) k h =
+    ap₂ (λ t r. cond t (Some k) r) (ap test (sym (add-zero k)) ∙ h 0)
+    (searched p test d xs (k + 1) (λ j. let e : k + 1 + j ≡ k + suc j = omega arith in ap test e ∙ h (suc j)))
 
-  pub find_skip : k < length es → same (get_or es k no_entry).word w ≡ false →
-      find_from (k + 1) (drop (k + 1) es) w ≡ find_from k (drop k es) w
-  find_skip h f =
-      sym (next_entry h ∙ cond-false (same (get_or es k no_entry).word w) k (find_from (k + 1) (drop (k + 1) es) w) f)
+-- The number of a word is its place, or 65,535 where it has none.
+pub find_place : (es : List Entry) (w : List ℕ) (k : ℕ) → unwrap_or (position_from (λ (e : Entry). same e.word w) k es) 65535 ≡ find_from k es w
+unfolding find_from
+find_place [] w k = refl
+find_place (e ∷ es) w k =
+    let more : k + 1 ≡ suc k = omega arith in
+    by_first (same e.word w) (find_place es w (k + 1) ∙ ap (λ n. find_from n es w) more)
+  where
+    by_first : (t : Bool) → unwrap_or (position_from (λ (x : Entry). same x.word w) (k + 1) es) 65535 ≡ find_from (suc k) es w →
+        unwrap_or (cond t (Some k) (position_from (λ (x : Entry). same x.word w) (k + 1) es)) 65535 ≡ cond t k (find_from (suc k) es w)
+    by_first true h = refl
+    by_first false h = h
 
-  pub find_here : k < length es → same (get_or es k no_entry).word w ≡ true → find_from k (drop k es) w ≡ k
-  find_here h t = next_entry h ∙ cond-true (same (get_or es k no_entry).word w) k (find_from (k + 1) (drop (k + 1) es) w) t
-
-  pub find_none : length es ≤ k → find_from k (drop k es) w ≡ 65535
-  unfolding find_from
-  find_none h = ap (λ l. find_from k l w) (drop_all k es h)
+pub placed_among : (es : List Entry) (w : List ℕ) (k : ℕ) →
+    is_some (position_from (λ (e : Entry). same e.word w) k es) ≡ among w (map (λ (e : Entry). e.word) es)
+unfolding among
+placed_among [] w k = refl
+placed_among (e ∷ es) w k =
+    by_first (same e.word w) (placed_among es w (k + 1)) ∙ ap (λ t. t || among w (map (λ (x : Entry). x.word) es)) (same_turned e.word w)
+  where
+    by_first : (t : Bool) → is_some (position_from (λ (x : Entry). same x.word w) (k + 1) es) ≡ among w (map (λ (x : Entry). x.word) es) →
+        is_some (cond t (Some k) (position_from (λ (x : Entry). same x.word w) (k + 1) es)) ≡ (t || among w (map (λ (x : Entry). x.word) es))
+    by_first true h = refl
+    by_first false h = h
 
 -- Looking for a name, cell by cell.
 module _ (F : List ℕ) (n : Name) (p : ℕ) where
@@ -134,16 +146,15 @@ module _ (F : List ℕ) (n : Name) (p : ℕ) where
       one true m rest = refl
       one false m rest = refl
 
-  pub lookup_skip : p < length F → (eqb (cell F p) MARK && same (name_at F p) n) ≡ false →
-      lookup (names_from (p + 1) (drop (p + 1) F)) n ≡ lookup (names_from p (drop p F)) n
-  lookup_skip h f = sym (next_cell h ∙ cond-false (eqb (cell F p) MARK && same (name_at F p) n) (Some p) (lookup (names_from (p + 1) (drop (p + 1) F)) n) f)
-
-  pub lookup_here : p < length F → (eqb (cell F p) MARK && same (name_at F p) n) ≡ true → lookup (names_from p (drop p F)) n ≡ Some p
-  lookup_here h t = next_cell h ∙ cond-true (eqb (cell F p) MARK && same (name_at F p) n) (Some p) (lookup (names_from (p + 1) (drop (p + 1) F)) n) t
-
-  pub lookup_none : length F ≤ p → lookup (names_from p (drop p F)) n ≡ None
+  lookup_none : length F ≤ p → lookup (names_from p (drop p F)) n ≡ None
   unfolding names_from lookup
   lookup_none h = ap (λ l. lookup (names_from p l) n) (drop_all p F h)
+
+pub name_searched : (F : List ℕ) (n : Name) (m p : ℕ) → p + m ≡ length F →
+    position_from (λ q. eqb (cell F q) MARK && same (name_at F q) n) p (range_with_len p m) ≡ lookup (names_from p (drop p F)) n
+name_searched F n zero p e = sym (lookup_none F n p (omega arith))
+name_searched F n (suc m) p e =
+    ap (cond (eqb (cell F p) MARK && same (name_at F p) n) (Some p)) (name_searched F n m (p + 1) (omega arith)) ∙ sym (next_cell F n p (omega arith))
 
 -- A name is found just if it is among the names, and then its number is.
 pub lookup_known : (ms : List Named) (n : Name) →
@@ -159,3 +170,10 @@ lookup_known (m ∷ ms) n = go (same m.name n) (same n m.name) (same_turned m.na
     go true false e rest = absurd (true≢false e)
     go false true e rest = absurd (false≢true e)
     go false false e rest = rest
+
+pub found_known : (ms : List Named) (n : Name) → is_some (lookup ms n) ≡ among n (map (λ (m : Named). m.name) ms)
+found_known ms n = ap is_some (lookup_known ms n) ∙ some_if (among n (map (λ (m : Named). m.name) ms)) (number_of ms n)
+  where
+    some_if : (b : Bool) (k : ℕ) → is_some {T = ℕ} (cond b (Some k) None) ≡ b
+    some_if true k = refl
+    some_if false k = refl

@@ -1,21 +1,15 @@
 -- Tests of names by their letters: the capitals that a name begins with, capitals that are the same, and endings that agree.
-use Rattle.std.proofs.Common.{◌≡◌, ℕ, suc, ◌+◌, Bool, true, false, cond, ◌&&◌, eqb, List, [], ◌∷◌, map, take, drop, refl, sym, ap, ap₂, ◌∙◌, arith}
+use Rattle.std.proofs.Common.{◌≡◌, ℕ, ◌+◌, Bool, cond, ◌&&◌, eqb, List, [], ◌∷◌, map, length, take, drop, refl, sym, ap, ap₂, ◌∙◌, arith}
 use lib.Pointwise.{pointwise}
 use Rattle.std.specs.List.{list_all, prefix_len, zip}
 use Rattle.std.proofs.lemmas.List.{drop-map, take-map}
-use Rattle.formula.specs.Cuts.{capital, run}
+use Rattle.formula.specs.Cuts.{capital}
 use Rattle.written.specs.Matching.{agree, endings_match, names_match, same}
 
 module _ {L : Type 0} (code : L → ℕ) where
-  pub run_prefix : (p : ℕ → Bool) (xs : List L) → prefix_len (λ x. p (code x)) xs ≡ run p (map code xs)
-  unfolding run
-  run_prefix p [] = refl
-  run_prefix p (x ∷ xs) = by_first (p (code x)) (run_prefix p xs)
-    where
-      by_first : (t : Bool) → prefix_len (λ y. p (code y)) xs ≡ run p (map code xs) →
-          cond t (1 + prefix_len (λ y. p (code y)) xs) 0 ≡ cond t (suc (run p (map code xs))) 0
-      by_first true h = omega arith
-      by_first false h = refl
+  pub prefix_coded : (p : ℕ → Bool) (xs : List L) → prefix_len (λ x. p (code x)) xs ≡ prefix_len p (map code xs)
+  prefix_coded p [] = refl
+  prefix_coded p (x ∷ xs) = ap (λ n. cond (p (code x)) (1 + n) 0) (prefix_coded p xs)
 
   pub pointwise_same : (eq : L → L → Bool) → ((x y : L) → eq x y ≡ eqb (code x) (code y)) → (xs ys : List L) →
       pointwise eq xs ys ≡ same (map code xs) (map code ys)
@@ -33,7 +27,7 @@ module _ {L : Type 0} (code : L → ℕ) where
 
   -- Names match by what they begin with and what follows.
   module _ (eq : L → L → Bool) (told : (x y : L) → eq x y ≡ eqb (code x) (code y)) (xs ys : List L) (m n : ℕ)
-      (p : m ≡ run capital (map code xs)) (q : n ≡ run capital (map code ys)) where
+      (p : m ≡ prefix_len capital (map code xs)) (q : n ≡ prefix_len capital (map code ys)) where
     pub by_parts : names_match (map code xs) (map code ys)
         ≡ (pointwise eq (take m xs) (take n ys) && endings_match (map code (drop m xs)) (map code (drop n ys)))
     by_parts =
@@ -43,3 +37,18 @@ module _ {L : Type 0} (code : L → ℕ) where
         ap₂ endings_match (drop-map code m xs) (drop-map code n ys) in
         ap₂ (λ i j. same (take i (map code xs)) (take j (map code ys)) && endings_match (drop i (map code xs)) (drop j (map code ys))) (sym p) (sym q)
         ∙ ap₂ ◌&&◌ front back
+
+-- Rows are the same where they are as long and the same place by place.
+pub same_zipped : (xs ys : List ℕ) → length xs ≡ length ys → list_all (λ (p : ℕ × ℕ). eqb p.0 p.1) (zip xs ys) ≡ same xs ys
+unfolding same
+same_zipped [] [] h = refl
+same_zipped [] (y ∷ ys) h = absurd (omega arith)
+same_zipped (x ∷ xs) [] h = absurd (omega arith)
+same_zipped (x ∷ xs) (y ∷ ys) h = ap (λ t. eqb x y && t) (same_zipped xs ys (omega arith))
+
+pub bytes_same : (xs ys : List ℕ) → pointwise eqb xs ys ≡ same xs ys
+unfolding same
+bytes_same [] [] = refl
+bytes_same [] (y ∷ ys) = refl
+bytes_same (x ∷ xs) [] = refl
+bytes_same (x ∷ xs) (y ∷ ys) = ap (λ t. eqb x y && t) (bytes_same xs ys)

@@ -1,20 +1,12 @@
 -- A line that is written in three parts: what each part takes, that the front stays whole with the new names, and that the
 -- parts make the line.
-use Rattle.std.proofs.Common.{◌≡◌, ℕ, ◌+◌, ◌*◌, ◌<◌, ◌≤◌, List, [], ◌∷◌, ◌++◌, length, get_or, take, drop, sym, refl, ap, ◌∙◌, subst, ⊎_elim, arith, length-append, length-take, length-take-le}
-use lib.ListN.{length-map}
+use Rattle.std.proofs.Common.{◌≡◌, ℕ, ◌+◌, ◌*◌, ◌≤◌, List, [], ◌∷◌, ◌++◌, length, sym, refl, ap, ◌∙◌, subst, arith, length-append, length-take-le}
 use Rattle.std.specs.List.{AllByRecursion}
-use Rattle.std.proofs.lemmas.List.{get_or-drop, get_or_past, get_or-take}
-use Rattle.std.proofs.ByRecursion.{All-from_get_or}
-use Rattle.std.proofs.lemmas.Bool.{cases_lt}
 use Rattle.lexicon.specs.Lexicon.{Disjunct}
-use Rattle.formula.specs.Cuts.{name_length, name_there}
 use Rattle.formula.specs.Tokens.{Name}
-use Rattle.formula.proofs.Kept.{read_at}
-use Rattle.written.specs.declared.fresh.Fresh.{Fresh}
 use Rattle.written.specs.declared.page.Page.{Page}
 use Rattle.written.specs.Costs.{each_takes}
 use Rattle.written.specs.Model.{fresh, mentioned}
-use Rattle.written.specs.Noted.{fresh_of}
 use Rattle.written.specs.Pages.{page_store, with_cells}
 use Rattle.written.specs.Store.{Store, all_name_cells, numbered, block_cells, word_cells, word_rows, with_line, names_of as store_names, WholeNames}
 use Rattle.written.proofs.Names.{NamedOk, sound_append, sound_names, sound_whole, whole_sound}
@@ -33,24 +25,6 @@ words_take (w ∷ ws) = let r = words_take ws in simp length-append (omega arith
 pub length_front : (p : Page) → p.used ≤ length p.table.now → length (page_store p).front ≡ p.used
 unfolding page_store
 length_front p h = length-take-le p.used p.table.now h
-
--- The names of a formula of bytes are of bytes.
-part_bytes : (n : ℕ) (ys : List ℕ) → ((i : ℕ) → get_or ys i 0 < 256) → (j : ℕ) → get_or (take n ys) j 0 < 256
-part_bytes n ys h j =
-    ⊎_elim (λ l. let e = get_or-take n ys j 0 l in let b = h j in omega arith)
-    (λ l. let m = length-take n ys in let e = get_or_past (take n ys) j 0 (omega arith) in omega arith) (cases_lt j n)
-
-pub names_ok : (xs : List ℕ) (f : Fresh) → ((i : ℕ) → get_or xs i 0 < 256) → ((i : ℕ) → length (get_or (fresh_of xs f) i []) ≤ 8) →
-    AllByRecursion NamedOk (fresh_of xs f)
-names_ok xs f bytes short =
-    All-from_get_or NamedOk (fresh_of xs f) []
-    (λ i h.
-    let k = length-map (take f.len f.places) (name_there xs) in
-    let m = length-take-le f.len f.places (omega arith) in
-    let p = get_or f.places i 0 in
-    let e : get_or (fresh_of xs f) i [] ≡ name_there xs p = read_at (name_there xs) f.places f.len i 0 [] (omega arith) (omega arith) in
-    let rest : (j : ℕ) → get_or (drop p xs) j 0 < 256 = λ j. let b = bytes (p + j) in let d = get_or-drop p xs j 0 in omega arith in
-    (short i, λ j. let b = part_bytes (name_length (drop p xs)) (drop p xs) rest j in let d = ap (λ n. get_or n j 0) e in omega arith))
 
 -- New names leave the front whole.
 pub whole_named : (s t : Store) (ns : List Name) → t ≡ with_cells s (all_name_cells ns) → AllByRecursion NamedOk ns → WholeNames s.front →

@@ -4,16 +4,14 @@ use Rattle.std.proofs.Common.{◌≡◌, ℕ, suc, ◌+◌, ◌<◌, Bool, true,
 use denote.Param.Members.{Mut}
 use denote.Ref.{Bor}
 use Rattle.std.specs.Fn.{CalledAt}
-use Rattle.std.specs.List.{enumerate_from, list_all, list_any, onto_first, slice_split, count_by, position_or_len}
+use Rattle.std.specs.List.{enumerate_from, list_all, list_any, onto_first, slice_split, count_by}
 use Rattle.std.specs.Slice.Iter.{split_rest, split_done, split_callee, split_steps}
 use Rattle.std.proofs.lemmas.Bool.{cond-false}
-use Rattle.std.proofs.lemmas.Bool.Decides.{nat_tests}
 use Rattle.std.proofs.lemmas.Iterator.{YieldsList}
 use Rattle.std.proofs.lemmas.Iterator.Splits.{YieldsList-from_slice_split}
 use Rattle.std.proofs.lemmas.List.{drop_more}
 use Rattle.std.proofs.lemmas.List.FromFn.{get_or-enumerate_from, length-enumerate_from}
-use Rattle.std.proofs.lemmas.List.Recursion.{same_from_clauses, is_count_by, is_position_or_len}
-use Rattle.formula.specs.Cuts.{run}
+use Rattle.std.proofs.lemmas.List.Recursion.{same_from_clauses, is_count_by}
 use Rattle.written.specs.Lines.{lines, onto, pieces, every, some_among}
 use Rattle.written.specs.Matching.{same}
 use Rattle.written.specs.Model.{among}
@@ -63,28 +61,6 @@ bytes_unmarked m xs = sym (is_count_by (λ ys. length (word_cells (pieces m ys))
         ≡ cond (not t) (1 + length (word_cells (pieces m ys))) (length (word_cells (pieces m ys)))
     by_mark y ys true = refl
     by_mark y ys false = let h = bytes_onto y (pieces m ys) in omega arith
-
--- The first place of a mark is how far the bytes go without one.
-pub first_mark : (m : ℕ) (xs : List ℕ) → run (λ b. not (eqb b m)) xs ≡ position_or_len (λ b. eqb b m) xs
-unfolding run
-first_mark m = is_position_or_len (run (λ b. not (eqb b m))) (λ b. eqb b m) refl (λ x xs. by_mark (eqb x m) (run (λ b. not (eqb b m)) xs))
-  where
-    by_mark : (t : Bool) (n : ℕ) → cond (not t) (suc n) 0 ≡ cond t 0 (1 + n)
-    by_mark true n = refl
-    by_mark false n = omega arith
-
-eqb_more : (a b : ℕ) → eqb (suc a) (suc b) ≡ eqb a b
-eqb_more a b = grind (arith, nat_tests)
-
-pub unmarked : (m : ℕ) (xs : List ℕ) → eqb (run (λ b. not (eqb b m)) xs) (length xs) ≡ not (list_any (λ b. eqb b m) xs)
-unfolding run
-unmarked m [] = refl
-unmarked m (x ∷ xs) = by_mark (eqb x m) (unmarked m xs)
-  where
-    by_mark : (t : Bool) → eqb (run (λ b. not (eqb b m)) xs) (length xs) ≡ not (list_any (λ b. eqb b m) xs) →
-        eqb (cond (not t) (suc (run (λ b. not (eqb b m)) xs)) 0) (suc (length xs)) ≡ not (t || list_any (λ b. eqb b m) xs)
-    by_mark true h = grind (arith, nat_tests)
-    by_mark false h = eqb_more (run (λ b. not (eqb b m)) xs) (length xs) ∙ h
 
 -- In a loop over pieces, the piece whose turn it is and those behind it.
 pub piece_here : (ps : List (List ℕ)) (n : ℕ) (w : List ℕ) → (n < length ps) × (w ≡ get_or ps n w) → drop n ps ≡ w ∷ drop (n + 1) ps

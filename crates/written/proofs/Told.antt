@@ -1,6 +1,7 @@
 -- What a report reads from a table is what the store holds.
-use Rattle.std.proofs.Common.{◌≡◌, ℕ, suc, ◌+◌, ◌<◌, ◌≤◌, true, false, cond, eqb, List, [], ◌∷◌, length, get_or, take, drop, Some, None, unwrap_or, sym, ap, ◌∙◌, arith}
-use Rattle.std.proofs.lemmas.List.{drop_all, drop_more, get_or_past}
+use Rattle.std.proofs.Common.{◌≡◌, ℕ, suc, ◌+◌, ◌≤◌, Bool, true, false, cond, eqb, List, [], ◌∷◌, length, get_or, take, drop, Some, None, unwrap_or, refl, sym, ap, count_by, ◌∙◌, arith}
+use Rattle.std.proofs.lemmas.List.{get_or_past}
+use Rattle.std.proofs.lemmas.List.Recursion.{is_count_by}
 use Rattle.written.specs.Model.{Entry, name_of, no_entry}
 use Rattle.written.specs.Pages.{store}
 use Rattle.written.specs.Store.{MARK, cell, model, name_at, names_from}
@@ -26,28 +27,24 @@ module _ (F : List ℕ) (k a : ℕ) (e : a ≡ k) where
       ∙ (ap (λ b. unwrap_or (cond b (Some (name_at F k)) None) []) (sym t ∙ ap (λ p. eqb (cell F p) MARK) e)
       ∙ sym (ap (λ n. unwrap_or n []) (name_known F k)))
 
--- How many names there are from a cell on.
-module _ (F : List ℕ) (p : ℕ) where
-  pub count_mark : p < length F → eqb (cell F p) MARK ≡ true →
-      length (names_from p (drop p F)) ≡ suc (length (names_from (p + 1) (drop (p + 1) F)))
-  unfolding names_from
-  count_mark h t =
-      let cs = drop (p + 1) F in
-      let e : suc p ≡ p + 1 = omega arith in
-      ap (λ l. length (names_from p l)) (drop_more F p 0 h)
-      ∙ (ap (λ b. length (cond b (record { name = take (get_or cs 0 0) (drop 1 cs); number = p } ∷ names_from (suc p) cs) (names_from (suc p) cs))) t
-      ∙ ap (λ q. suc (length (names_from q cs))) e)
+-- There are as many names as marks.
+names_alike : (q r : ℕ) (F : List ℕ) → length (names_from q F) ≡ length (names_from r F)
+unfolding names_from
+names_alike q r [] = refl
+names_alike q r (c ∷ cs) = by_mark (eqb c MARK) (names_alike (suc q) (suc r) cs)
+  where
+    by_mark : (t : Bool) → length (names_from (suc q) cs) ≡ length (names_from (suc r) cs) →
+        length (cond t (record { name = take (get_or cs 0 0) (drop 1 cs); number = q } ∷ names_from (suc q) cs) (names_from (suc q) cs))
+        ≡ length (cond t (record { name = take (get_or cs 0 0) (drop 1 cs); number = r } ∷ names_from (suc r) cs) (names_from (suc r) cs))
+    by_mark true h = ap suc h
+    by_mark false h = h
 
-  pub count_other : p < length F → eqb (cell F p) MARK ≡ false →
-      length (names_from p (drop p F)) ≡ length (names_from (p + 1) (drop (p + 1) F))
-  unfolding names_from
-  count_other h f =
-      let cs = drop (p + 1) F in
-      let e : suc p ≡ p + 1 = omega arith in
-      ap (λ l. length (names_from p l)) (drop_more F p 0 h)
-      ∙ (ap (λ b. length (cond b (record { name = take (get_or cs 0 0) (drop 1 cs); number = p } ∷ names_from (suc p) cs) (names_from (suc p) cs))) f
-      ∙ ap (λ q. length (names_from q cs)) e)
-
-  pub count_end : length F ≤ p → length (names_from p (drop p F)) ≡ 0
-  unfolding names_from
-  count_end h = ap (λ l. length (names_from p l)) (drop_all p F h)
+pub names_counted : (F : List ℕ) → length (names_from 0 F) ≡ count_by (λ c. eqb c MARK) F
+unfolding names_from
+names_counted = is_count_by (λ cs. length (names_from 0 cs)) (λ c. eqb c MARK) refl (λ c cs. by_mark c cs (eqb c MARK) (names_alike 1 0 cs))
+  where
+    by_mark : (c : ℕ) (cs : List ℕ) (t : Bool) → length (names_from 1 cs) ≡ length (names_from 0 cs) →
+        length (cond t (record { name = take (get_or cs 0 0) (drop 1 cs); number = 0 } ∷ names_from 1 cs) (names_from 1 cs))
+        ≡ cond t (1 + length (names_from 0 cs)) (length (names_from 0 cs))
+    by_mark c cs true h = omega arith
+    by_mark c cs false h = h

@@ -2,7 +2,7 @@
 use Rattle.std.specs.Prelude.{◌≡◌, ℕ, suc, ◌+◌, ◌<◌, cond, ◌||◌, List, [], ◌∷◌, ◌++◌, map, length, Some, None, Ok, Err, Option, Result, nat_lt, slice_index_or}
 use Rattle.refusal.specs.declared.Refusal.TheVariants.{LineForm, WordTaken, TableShort}
 use Rattle.refusal.specs.declared.fault.Fault.{Fault}
-use Rattle.refusal.specs.Faults.{carried, in_text, of_line, then}
+use Rattle.refusal.specs.Faults.{in_text, of_line, then}
 use Rattle.formula.specs.Meaning.{meaning}
 use Rattle.formula.specs.Tokens.{Name}
 use Rattle.formula.specs.Ways.{Way}
@@ -10,7 +10,6 @@ use Rattle.written.specs.declared.draft.Draft.{Draft}
 use Rattle.refusal.specs.declared.fault.LineFault.{LineFault}
 use Rattle.written.specs.declared.page.Page.{Page}
 use Rattle.written.specs.Costs.{line_cost}
-use Rattle.written.specs.Faults.{of_formula}
 use Rattle.written.specs.Lines.{any_known, formula_part, good_line, line_words}
 use Rattle.written.specs.Model.{Entry, Named, fresh, mentioned}
 use Rattle.written.specs.Pages.{limit, page_store, store, taken}
@@ -44,7 +43,7 @@ entered lim b words ds =
 abbrev pub lined : (limit : ℕ) → Book → List ℕ → Result Book LineFault
 lined lim b line =
     cond (good_line line)
-    (then (carried of_formula (meaning (formula_part line))) (λ ds. entered lim b (line_words line) ds))
+    (then (meaning (formula_part line)) (λ ds. entered lim b (line_words line) ds))
     (Err (of_line LineForm))
 
 -- What a text makes of a book, line by line from a line's number on, up to the first that is refused.

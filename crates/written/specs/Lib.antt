@@ -1,12 +1,10 @@
 pub mod Costs
 pub mod Drafts
 pub mod Examples
-pub mod Faults
 pub mod Kept
 pub mod Lines
 pub mod Matching
 pub mod Meaning
 pub mod Model
-pub mod Noted
 pub mod Pages
 pub mod Store

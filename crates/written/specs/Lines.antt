@@ -1,6 +1,6 @@
 -- The form of a line: words parted by single spaces, a tab, and a formula; and the lines of a text.
 use Rattle.std.specs.Prelude.{ℕ, suc, Bool, true, false, cond, not, ◌&&◌, ◌||◌, List, [], ◌∷◌, ◌++◌, length, take, drop, ◌==◌, nat_le, nat_lt}
-use Rattle.formula.specs.Cuts.{run}
+use Rattle.std.specs.List.{list_any, position_or_len}
 use Rattle.written.specs.Model.{among}
 
 abbrev pub onto : ℕ → List (List ℕ) → List (List ℕ)
@@ -23,7 +23,7 @@ lines (b ∷ bs) = cond (b == 10) ([] ∷ lines bs) (onto b (lines bs))
 
 -- The first tab ends the words; a later one belongs to the formula.
 abbrev pub tab_place : List ℕ → ℕ
-tab_place line = run (λ b. not (b == 9)) line
+tab_place line = position_or_len (λ b. b == 9) line
 
 abbrev pub words_part : List ℕ → List ℕ
 words_part line = take (tab_place line) line
@@ -33,7 +33,7 @@ formula_part line = drop (suc (tab_place line)) line
 
 -- A word has 1 to 24 bytes and no line feed (nor a space or a tab, since it is cut at those).
 abbrev pub good_word : List ℕ → Bool
-good_word w = nat_lt 0 (length w) && (nat_le (length w) 24 && run (λ b. not (b == 10)) w == length w)
+good_word w = nat_lt 0 (length w) && (nat_le (length w) 24 && not (list_any (λ b. b == 10) w))
 
 unfoldable pub every : (List ℕ → Bool) → List (List ℕ) → Bool
 every p [] = true

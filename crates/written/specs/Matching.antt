@@ -1,6 +1,7 @@
 -- Which names of connectors match.
 use Rattle.std.specs.Prelude.{◌≡◌, ℕ, ◌≤◌, Bool, true, false, ◌&&◌, ◌||◌, ◌⊎◌, List, [], ◌∷◌, take, drop, ◌==◌, slice_index_or}
-use Rattle.formula.specs.Cuts.{capital, run}
+use Rattle.std.specs.List.{prefix_len}
+use Rattle.formula.specs.Cuts.{capital}
 use Rattle.formula.specs.Tokens.{Name}
 
 -- Whether two rows of bytes are the same.
@@ -12,10 +13,10 @@ same (x ∷ xs) (y ∷ ys) = x == y && same xs ys
 
 -- A name is its capitals and its ending.
 abbrev pub capitals : Name → List ℕ
-capitals n = take (run capital n) n
+capitals n = take (prefix_len capital n) n
 
 abbrev pub ending : Name → List ℕ
-ending n = drop (run capital n) n
+ending n = drop (prefix_len capital n) n
 
 -- Two letters agree when they are the same or one of them is `*`.
 abbrev pub agree : ℕ → ℕ → Bool
@@ -37,4 +38,4 @@ abbrev pub Agree : ℕ → ℕ → Type 0
 Agree x y = (x ≡ y) ⊎ ((x ≡ 42) ⊎ (y ≡ 42))
 
 abbrev pub Matching : Name → Name → Type 0
-Matching a b = (capitals a ≡ capitals b) × ((i : ℕ) → run capital a ≤ i → Agree (slice_index_or a i 42) (slice_index_or b i 42))
+Matching a b = (capitals a ≡ capitals b) × ((i : ℕ) → prefix_len capital a ≤ i → Agree (slice_index_or a i 42) (slice_index_or b i 42))

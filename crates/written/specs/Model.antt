@@ -1,7 +1,8 @@
 -- What a draft holds, and the dictionary that it becomes: words with their disjuncts, and the names of connectors with
 -- their numbers.
-use Rattle.std.specs.Prelude.{ℕ, suc, Bool, false, cond, ◌||◌, List, [], ◌∷◌, ◌++◌, map, length, Some, None, Option, ◌==◌, slice_index_or}
-use Rattle.lexicon.specs.Lexicon.{Disjunct, Lexicon}
+use Rattle.std.specs.Prelude.{ℕ, suc, ◌<◌, ◌≤◌, Bool, false, cond, ◌||◌, List, [], ◌∷◌, ◌++◌, map, length, Some, None, Option, ◌==◌, slice_index, slice_index_or}
+use Rattle.lexicon.specs.Lexicon.{Disjunct, Lexicon, free, side_of}
+use Rattle.lexicon.specs.declared.side.Side.{Side}
 use Rattle.formula.specs.Tokens.{Name}
 use Rattle.written.specs.Matching.{same, names_match}
 
@@ -19,6 +20,13 @@ pub record Named : Type 0 where
 pub record Model : Type 0 where
   pub entries : List Entry
   pub names : List Named
+
+-- Disjuncts as an accepted formula gives them: few, with short lists of short names.
+pub record Fitting (ds : List (Disjunct Name)) : Type 0 where
+  pub few : length ds ≤ 64
+  pub lists : (k : ℕ) (s : Side) → length (side_of (slice_index_or ds k free) s) ≤ 8
+  pub names : (k i : ℕ) (s : Side) → length (slice_index_or (side_of (slice_index_or ds k free) s) i []) ≤ 8
+  pub bytes : (k i : ℕ) (s : Side) (j : ℕ) → slice_index (slice_index_or (side_of (slice_index_or ds k free) s) i []) j < 256
 
 unfoldable pub among : Name → List Name → Bool
 among n [] = false

@@ -1,5 +1,5 @@
 -- What a lent table holds, by how much of its front is written and how many words have rows at its back.
-use Rattle.std.specs.Prelude.{ℕ, ◌+◌, ◌-◌, ◌*◌, ◌≤◌, min, List, [], ◌∷◌, ◌++◌, length, take, slice_index}
+use Rattle.std.specs.Prelude.{◌≡◌, ℕ, ◌+◌, ◌-◌, ◌*◌, ◌≤◌, min, List, [], ◌∷◌, ◌++◌, length, take, slice_index}
 use Rattle.written.specs.Store.{Row, Store, counted}
 use Rattle.written.specs.declared.page.Page.{Page}
 
@@ -36,6 +36,13 @@ page_store p = store p.table.now p.used p.words
 
 abbrev pub with_cells : Store → List ℕ → Store
 with_cells s xs = record { front = s.front ++ xs; rows = s.rows }
+
+-- The front of a page has some cells more, and nothing else of it has changed.
+pub record Appended (p q : Page) (xs : List ℕ) : Type 0 where
+  pub store : page_store q ≡ with_cells (page_store p) xs
+  pub len : length q.table.now ≡ length p.table.now
+  pub used : q.used ≡ p.used + length xs
+  pub words : q.words ≡ p.words
 
 abbrev pub with_row : Store → Row → Store
 with_row s r = record { front = s.front; rows = s.rows ++ (r ∷ []) }

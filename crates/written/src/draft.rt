@@ -4,6 +4,7 @@ ghost use Rattle.written.specs.Store.{Whole};
 
 use crate::page::Page;
 
+pub mod enter;
 pub mod take;
 pub mod text;
 
@@ -13,5 +14,5 @@ pub struct Draft<'t> {
     pub(crate) page: Page<'t>,
     ghost roomy: { taken page.used page.words ≤ limit page.table.now },
     ghost few: { page.words ≤ 256 },
-    ghost whole: { ∥ Whole (store page.table.now page.used page.words) ∥₁ },
+    ghost whole: { Whole (store page.table.now page.used page.words) },
 }

@@ -3,20 +3,18 @@
 //! - `pieces`: where the pieces of some bytes end that are cut at a mark.
 //! - `line`: a line's words and its formula.
 //! - `page`: the lent table, and writing to it.
-//! - `cells`, `knows`: what is read from a table.
-//! - `fresh`, `note`: the names that a line brings.
+//! - `front`: the names that the front of a table has.
+//! - `note`: the names that a line brings.
 //! - `cost`: how many cells a line takes.
 //! - `matching`: which names of connectors match.
 //! - `draft`, `closed`: a draft, and the dictionary that closing makes of it.
 
 #![tactic(auto)]
 
-mod cells;
 pub mod closed;
 mod cost;
 pub mod draft;
-mod fresh;
-mod knows;
+mod front;
 pub mod line;
 pub mod matching;
 mod note;

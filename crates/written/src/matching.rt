@@ -1,5 +1,6 @@
 ghost use Rattle.std.specs.Prelude.{◌≡◌, ℕ, ◌≤◌, Decides, length, map, refl, ◌==◌};
-ghost use Rattle.formula.specs.Cuts.{capital, run};
+ghost use Rattle.std.specs.List.{prefix_len};
+ghost use Rattle.formula.specs.Cuts.{capital};
 ghost use Rattle.written.specs.Matching.{Matching, agree, endings_match, names_match};
 
 /// The letter that agrees with every letter.
@@ -45,7 +46,7 @@ fn is_capital(letter: u16) -> bool
 /// How many capitals a name begins with.
 fn capital_count<L: Letter>(name: &[L]) -> usize
     ensures within { result ≤ length name.now }
-    ensures value { result ≡ run capital (map L.code name.now) }
+    ensures value { result ≡ prefix_len capital (map L.code name.now) }
 {
     name.iter().take_while(|x| is_capital(x.code())).count()
 }

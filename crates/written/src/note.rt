@@ -1,109 +1,48 @@
-ghost use Rattle.std.specs.Prelude.{◌≡◌, ℕ, ◌+◌, ◌<◌, ◌≤◌, ◌||◌, List, [], ◌∷◌, ◌++◌, take};
-ghost use Rattle.formula.specs.Cuts.{name_there};
+ghost use Rattle.std.specs.Prelude.{◌≡◌, ◌+◌, ◌≤◌, ◌++◌, length};
 ghost use Rattle.formula.specs.Shown.{disjuncts_of, names_of};
 ghost use Rattle.written.specs.Model.{among, fresh as unmet, mentioned};
-ghost use Rattle.written.specs.Noted.{fresh_of, known};
-ghost use Rattle.written.specs.Pages.{limit};
-ghost use Rattle.written.specs.Store.{WholeNames};
+ghost use Rattle.written.specs.Store.{known, lent};
 
-use crate::cells::number;
-use crate::fresh::Fresh;
-use crate::line::same_bytes;
-use formula::disjuncts::Disjuncts;
-use formula::name::name_at;
-use formula::names::Names;
+use crate::front::number;
+use arrayvec::ArrayVec;
+use formula::way::Disjuncts;
 
-fn no_names() -> Fresh
-    ensures { result.len ≡ 0 }
+/// Names of a line that the draft has not met, in the order in which they are met.
+///
+/// 64 disjuncts with two lists of 8 mention at most 1,024.
+pub(crate) type Fresh<'a> = ArrayVec<&'a [u8], 1024>;
+
+/// Whether a front has a name or it was noted before.
+fn met(front: &[u16], fresh: &[&[u8]], name: &[u8]) -> bool
+    requires { length front.now ≤ 65535 }
+    ensures { result ≡ among name.now (known front.now ++ lent fresh.now) }
 {
-    Fresh {
-        len: 0,
-        places: [0; 1024],
-    }
+    number(front, name).is_some() || fresh.contains(&name)
 }
 
-fn push(fresh: &mut Fresh, place: usize)
-    requires { fresh.old.len < 1024 }
-    ensures names { (xs : List ℕ) → fresh_of xs fresh.new ≡ fresh_of xs fresh.old ++ (name_there xs place ∷ []) }
-    ensures longer { fresh.new.len ≡ fresh.old.len + 1 }
+/// Notes the names of a list, each unless it was met.
+fn note_list<'a>(front: &[u16], names: &[&'a [u8]], fresh: &mut Fresh<'a>)
+    requires small { length front.now ≤ 65535 }
+    requires room { length fresh.old.items + length names.now ≤ 1024 }
+    ensures names { names_of fresh.new ≡ names_of fresh.old ++ unmet (known front.now ++ names_of fresh.old) (lent names.now) }
+    ensures longer { length fresh.new.items ≤ length fresh.old.items + length names.now }
 {
-    fresh.places[fresh.len] = place;
-    fresh.len += 1;
-}
-
-/// Whether a name is among those that were noted.
-fn noted(formula: &[u8], fresh: &Fresh, name: &[u8]) -> bool
-    ensures { result ≡ among name.now (fresh_of formula.now fresh.now) }
-{
-    for i in 0..fresh.len {
-        if same_bytes(name, name_at(formula, fresh.places[i])) {
-            return true;
+    for name in names {
+        if !met(front, fresh, name) {
+            fresh.push(name);
         }
     }
-    false
 }
 
-/// Whether the table has a name.
-fn in_table(cells: &[u16], used: usize, name: &[u8]) -> bool
-    requires roomy { used ≤ limit cells.now }
-    requires whole { WholeNames (take used cells.now) }
-    ensures { result ≡ among name.now (known cells.now used) }
+/// The names of some disjuncts that a front does not have, each once.
+pub(crate) fn fresh_names<'a>(front: &[u16], disjuncts: &Disjuncts<'a>) -> Fresh<'a>
+    requires { length front.now ≤ 65535 }
+    ensures { names_of result ≡ unmet (known front.now) (mentioned (disjuncts_of disjuncts.now)) }
 {
-    number(cells, used, name).is_some()
-}
-
-/// Whether the table has a name or it was noted before.
-fn met(cells: &[u16], used: usize, formula: &[u8], fresh: &Fresh, name: &[u8]) -> bool
-    requires roomy { used ≤ limit cells.now }
-    requires whole { WholeNames (take used cells.now) }
-    ensures { result ≡ (among name.now (known cells.now used) || among name.now (fresh_of formula.now fresh.now)) }
-{
-    if in_table(cells, used, name) {
-        return true;
-    }
-    noted(formula, fresh, name)
-}
-
-/// Notes a name unless it was met.
-fn note(cells: &[u16], used: usize, formula: &[u8], fresh: &mut Fresh, place: usize)
-    requires roomy { (used ≤ limit cells.now) × (fresh.old.len < 1024) }
-    requires whole { WholeNames (take used cells.now) }
-    ensures names { fresh_of formula.now fresh.new ≡ fresh_of formula.now fresh.old ++ unmet (known cells.now used ++ fresh_of formula.now fresh.old) (name_there formula.now place ∷ []) }
-    ensures longer { fresh.new.len ≤ fresh.old.len + 1 }
-{
-    if !met(cells, used, formula, fresh, name_at(formula, place)) {
-        push(fresh, place);
-    }
-}
-
-/// Notes the names of a list.
-fn note_list(cells: &[u16], used: usize, formula: &[u8], fresh: &mut Fresh, names: &Names)
-    requires roomy { (used ≤ limit cells.now) × (fresh.old.len + 8 ≤ 1024) }
-    requires whole { WholeNames (take used cells.now) }
-    ensures names { fresh_of formula.now fresh.new ≡ fresh_of formula.now fresh.old ++ unmet (known cells.now used ++ fresh_of formula.now fresh.old) (names_of formula.now names.now) }
-    ensures longer { fresh.new.len ≤ fresh.old.len + 8 }
-{
-    for i in 0..names.len {
-        note(cells, used, formula, fresh, names.places[i]);
-    }
-}
-
-/// The names of some disjuncts that the table does not have, each once.
-pub(crate) fn fresh_names(
-    cells: &[u16],
-    used: usize,
-    formula: &[u8],
-    disjuncts: &Disjuncts,
-) -> Fresh
-    requires roomy { used ≤ limit cells.now }
-    requires whole { WholeNames (take used cells.now) }
-    ensures { fresh_of formula.now result ≡ unmet (known cells.now used) (mentioned (disjuncts_of formula.now disjuncts.now)) }
-{
-    let mut fresh = no_names();
-    for k in 0..disjuncts.len {
-        let one = disjuncts.items[k];
-        note_list(cells, used, formula, &mut fresh, &one.left);
-        note_list(cells, used, formula, &mut fresh, &one.right);
+    let mut fresh = Fresh::new();
+    for one in disjuncts.iter() {
+        note_list(front, &one.left, &mut fresh);
+        note_list(front, &one.right, &mut fresh);
     }
     fresh
 }

@@ -1,6 +1,4 @@
-pub mod enter;
 pub mod line;
-pub mod read;
 pub mod write;
 
 /// The lent table and how much of it is written: cells from the front, and a row of four cells for each word at the back.

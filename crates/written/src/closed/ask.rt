@@ -1,24 +1,26 @@
-ghost use Rattle.std.specs.Prelude.{◌≡◌, ◌+◌, ◌*◌, ◌<◌, ◌≤◌, true, length, ◌==◌, slice_index, slice_index_or};
+ghost use Rattle.std.specs.Prelude.{◌≡◌, ◌+◌, ◌*◌, ◌<◌, ◌≤◌, length, ◌==◌, slice_index, slice_index_or};
 ghost use Rattle.lexicon.specs.Lexicon.{free, list_of};
 ghost use Rattle.written.specs.Kept.{few_words, none_past, few_disjuncts, short_lists, small_connectors};
 ghost use Rattle.written.specs.Meaning.{written, written_lexicon};
 ghost use Rattle.written.specs.Model.{find};
 ghost use Rattle.written.specs.Pages.{Inside, row_at};
-ghost use Rattle.written.specs.Store.{cell, model, name_at, numbers_at};
+ghost use Rattle.written.specs.Store.{cell, model, numbers_at};
 
-use crate::cells;
 use crate::closed::Written;
+use crate::front::{MARK, letters};
 use crate::matching::names_match;
-use crate::page::write::MARK;
 use lexicon::dictionary::Dictionary;
 use lexicon::side::Side;
+
+/// The number that no word has: what the subject gives for a word that is not there.
+const NO_WORD: u16 = 65535;
 
 impl<'t> Written<'t> {
     /// The number of a word, or 65,535 where the dictionary does not have it.
     pub fn find(&self, word: &[u8]) -> u16
         ensures { result ≡ find (model (written self.now)) word.now }
     {
-        cells::find(self.table, self.used, self.words, word)
+        self.place(word).map_or(NO_WORD, |k| k as u16)
     }
 
     /// Where the block of a word's disjuncts begins.
@@ -27,8 +29,7 @@ impl<'t> Written<'t> {
         ensures value { result ≡ (row_at self.now.table.now word).block }
         ensures inside { result + 4 + 3 * slice_index self.now.table.now result ≤ length self.now.table.now }
     {
-        let row = cells::row_place(self.table, word);
-        usize::from(self.table[row + 2])
+        usize::from(self.table[self.row(word) + 2])
     }
 
     /// Where the three cells of a disjunct begin.
@@ -59,9 +60,7 @@ impl<'t> Written<'t> {
 
     /// Whether a number is that of a name.
     pub(crate) fn is_name(&self, number: usize) -> bool
-        ensures value { result ≡ (cell (written self.now).front number == 65535) }
-        ensures inside { result ≡ true → number + 2 + slice_index self.now.table.now (number + 1) ≤ length self.now.table.now }
-        ensures held { result ≡ true → name_at (written self.now).front number ≡ name_at self.now.table.now number }
+        ensures { result ≡ (cell (written self.now).front number == 65535) }
     {
         number < self.used && self.table[number] == MARK
     }
@@ -97,20 +96,18 @@ impl<'t> Dictionary for Written<'t> {
     }
 
     fn connector(&self, word: u16, disjunct: usize, side: Side, place: usize) -> u16 {
-        let list = self.list(word, disjunct, side);
-        if place < list.len() { list[place] } else { 0 }
+        self.list(word, disjunct, side)
+            .get(place)
+            .copied()
+            .unwrap_or(0)
     }
 
     fn matches(&self, right: u16, left: u16) -> bool {
-        let (a, b) = (usize::from(right), usize::from(left));
-        if !self.is_name(a) {
+        let (right, left) = (usize::from(right), usize::from(left));
+        if !self.is_name(right) || !self.is_name(left) {
             return false;
         }
-        if !self.is_name(b) {
-            return false;
-        }
-        let a = cells::letters(self.table, a);
-        let b = cells::letters(self.table, b);
-        names_match(a, b)
+        let front = self.front();
+        names_match(letters(front, right), letters(front, left))
     }
 }

@@ -4,9 +4,8 @@ ghost use Rattle.written.specs.Meaning.{spent, written};
 ghost use Rattle.written.specs.Model.{name_of, no_entry};
 ghost use Rattle.written.specs.Store.{model};
 
-use crate::cells;
 use crate::closed::Written;
-use crate::page::write::MARK;
+use crate::front::{MARK, letters};
 
 impl<'t> Written<'t> {
     /// The bytes of a word, one to a cell; nothing past the last word.
@@ -14,13 +13,11 @@ impl<'t> Written<'t> {
         ensures { result.now ≡ (slice_index_or (model (written self.now)).entries number no_entry).word }
     {
         let word = usize::from(number);
-        if word >= self.words {
-            return &self.table[..0];
+        if word < self.words {
+            self.bytes(word)
+        } else {
+            &self.table[..0]
         }
-        let row = cells::row_place(self.table, word);
-        let at = usize::from(self.table[row]);
-        let len = usize::from(self.table[row + 1]);
-        &self.table[at..at + len]
     }
 
     /// The letters of the name that a connector's number stands for; nothing where it stands for none.
@@ -28,23 +25,18 @@ impl<'t> Written<'t> {
         ensures { result.now ≡ unwrap_or (name_of (model (written self.now)).names number) [] }
     {
         let at = usize::from(number);
-        if !self.is_name(at) {
-            return &self.table[..0];
+        if self.is_name(at) {
+            letters(self.front(), at)
+        } else {
+            &self.table[..0]
         }
-        cells::letters(self.table, at)
     }
 
     /// How many names the connectors have.
     pub fn name_count(&self) -> usize
         ensures { result ≡ length (model (written self.now)).names }
     {
-        let mut count = 0;
-        for i in 0..self.used {
-            if self.table[i] == MARK {
-                count += 1;
-            }
-        }
-        count
+        self.front().iter().filter(|cell| **cell == MARK).count()
     }
 
     /// How many cells of the table are taken.

@@ -34,11 +34,8 @@ impl<'t> Draft<'t> {
         ensures cells { cells_of self.new ≡ cells_of self.old }
     {
         let parts = split(line)?;
-        let disjuncts = meaning(parts.formula).map_err(|e| LineFault {
-            place: e.place,
-            refusal: e.refusal,
-        })?;
-        self.page.enter(parts.words, parts.formula, &disjuncts)
+        let disjuncts = meaning(parts.formula)?;
+        self.enter(parts.words, &disjuncts)
     }
 
     /// How many words the draft has.
@@ -52,14 +49,14 @@ impl<'t> Draft<'t> {
     pub fn spent(&self) -> usize
         ensures { result ≡ (book self.now).spent }
     {
-        self.page.used + 4 * self.page.words
+        self.read().cells()
     }
 
     /// The number of a word, or 65,535 where it is not defined.
     pub fn find(&self, word: &[u8]) -> u16
         ensures { result ≡ find (model (drafted self.now)) word.now }
     {
-        self.page.find(word)
+        self.read().find(word)
     }
 
     /// Closes the draft: what was drafted is a dictionary, which takes no more lines.

@@ -1,23 +1,18 @@
 ghost use Rattle.std.specs.Prelude.{◌≡◌, ◌+◌, ◌<◌, ◌≤◌, [], ◌∷◌, length};
-ghost use Rattle.written.specs.Pages.{limit, page_store, taken, with_cells, with_row};
+ghost use Rattle.written.specs.Pages.{Appended, limit, page_store, taken, with_row};
 ghost use Rattle.written.specs.Store.{name_cells};
 
+use crate::front::MARK;
 use crate::page::Page;
 
 /// Of a table at most so many cells are used.
 pub(crate) const LIMIT: usize = 65535;
 
-/// The first cell of a name.
-pub(crate) const MARK: u16 = 65535;
-
 impl<'t> Page<'t> {
     /// Writes a cell behind the front.
     pub(crate) fn push(&mut self, cell: u16)
         requires { taken self.old.used self.old.words < limit self.old.table.now }
-        ensures store { page_store self.new ≡ with_cells (page_store self.old) (cell ∷ []) }
-        ensures len { length self.new.table.now ≡ length self.old.table.now }
-        ensures used { self.new.used ≡ self.old.used + 1 }
-        ensures words { self.new.words ≡ self.old.words }
+        ensures { Appended self.old self.new (cell ∷ []) }
     {
         let at = self.used;
         self.table[at] = cell;
@@ -44,10 +39,7 @@ impl<'t> Page<'t> {
     /// Writes bytes behind the front, a cell for each.
     pub(crate) fn push_bytes(&mut self, bytes: &[u8])
         requires { taken self.old.used self.old.words + length bytes.now ≤ limit self.old.table.now }
-        ensures store { page_store self.new ≡ with_cells (page_store self.old) bytes.now }
-        ensures len { length self.new.table.now ≡ length self.old.table.now }
-        ensures used { self.new.used ≡ self.old.used + length bytes.now }
-        ensures words { self.new.words ≡ self.old.words }
+        ensures { Appended self.old self.new bytes.now }
     {
         for b in bytes {
             self.push(u16::from(*b));
@@ -57,10 +49,7 @@ impl<'t> Page<'t> {
     /// Writes a name behind the front: a mark, its length and its bytes.
     pub(crate) fn push_name(&mut self, name: &[u8])
         requires { taken self.old.used self.old.words + 2 + length name.now ≤ limit self.old.table.now }
-        ensures store { page_store self.new ≡ with_cells (page_store self.old) (name_cells name.now) }
-        ensures len { length self.new.table.now ≡ length self.old.table.now }
-        ensures used { self.new.used ≡ self.old.used + 2 + length name.now }
-        ensures words { self.new.words ≡ self.old.words }
+        ensures { Appended self.old self.new (name_cells name.now) }
     {
         self.push(MARK);
         self.push(name.len() as u16);

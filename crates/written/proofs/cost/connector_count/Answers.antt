@@ -1,35 +1,26 @@
-use Rattle.std.proofs.Common.{◌≡◌, ◌<◌, map, length, get_or, take, refl, ap, ◌∙◌, arith}
-use Rattle.formula.specs.Shown.{disjunct_of}
-use Rattle.formula.proofs.Tables.{length_names}
-use Rattle.written.specs.Model.{mentioned}
-use Rattle.written.proofs.Costs.{mentioned_count}
-use Rattle.written.proofs.Noted.{held_more}
+use Rattle.std.proofs.Common.{◌≡◌, ◌+◌, length, ◌∙◌, arith, rules}
+use Rattle.std.specs.List.{sum_by}
+use Rattle.std.proofs.lemmas.Iterator.{YieldsList-from_map, YieldsList-from_slice}
+use Rattle.std.proofs.lemmas.Iterator.Consumers.{YieldsList-at, fits_by_from_yields_list}
+use Rattle.formula.specs.declared.way.Disjunct.{Disjunct}
+use Rattle.formula.specs.Shown.{disjuncts_of}
+use Rattle.written.proofs.Costs.{mentioned_few, mentioned_sum}
 use Rattle.written.proofs.cost.connector_count.Goals as goal
 
-pub loop-k-init : goal.loop-k-init
-unfolding mentioned
-loop-k-init c = (omega arith, λ xs. refl)
+pub sum-requires-clause-fits : goal.sum-requires-clause-fits
+sum-requires-clause-fits c =
+    let ts = c.args.disjuncts.now.items in
+    let m = mentioned_few (disjuncts_of c.args.disjuncts.now) c.requires.lists in
+    fits_by_from_yields_list (λ (d : Disjunct). length d.left.items + length d.right.items) ts c.map.result _
+    (YieldsList-from_map _ (λ (d : Disjunct). length d.left.items + length d.right.items) (YieldsList-at c.map.ensures.source (YieldsList-from_slice ts (cc))) c.map.ensures.closure (λ x r q k. search rules))
+    (omega (arith, mentioned_sum ts, c.requires.few))
 
-pub loop-k-preserved : goal.loop-k-preserved
-loop-k-preserved c =
-    let ts = c.args.disjuncts.now.items
-    in let k = c.loop-k.k
-    in let d = get_or ts k c.index-disjuncts-k.result
-    in let l : k < length ts = omega arith
-    in (
-      omega (arith, c.loop-k.invariant.0, d.left.few, d.right.few),
-      λ xs.
-          let e = ap (λ ds. length (mentioned ds)) (held_more (disjunct_of xs) ts k c.index-disjuncts-k.result l)
-          ∙ mentioned_count (map (disjunct_of xs) (take k ts)) (disjunct_of xs d)
-          in let f = length_names xs d.left
-          in let g = length_names xs d.right
-          in omega (arith, c.loop-k.invariant.1 xs),
-    )
+pub returns-clause-value : goal.returns-clause-value
+returns-clause-value c =
+    let n : c.sum.result ≡ sum_by (λ (d : Disjunct). length d.left.items + length d.right.items) c.args.disjuncts.now.items = search rules in
+    n ∙ mentioned_sum c.args.disjuncts.now.items
 
-pub returns : goal.returns
-returns c =
-    let e : c.loop-k.k ≡ c.args.disjuncts.now.len = omega arith
-    in record {
-      value = λ xs. c.loop-k.invariant.1 xs ∙ ap (λ n. length (mentioned (map (disjunct_of xs) (take n c.args.disjuncts.now.items)))) e;
-      bound = omega (arith, c.loop-k.invariant.0, c.args.disjuncts.now.few);
-    }
+pub returns-clause-bound : goal.returns-clause-bound
+returns-clause-bound c =
+    let n = returns-clause-value c in
+    omega (arith, mentioned_few (disjuncts_of c.args.disjuncts.now) c.requires.lists, c.requires.few)

@@ -1,24 +1,32 @@
-use Rattle.std.proofs.Common.{◌<◌, [], map, length, get_or, take, refl, ap, ◌∙◌, arith}
-use Rattle.formula.specs.Cuts.{name_there}
-use Rattle.formula.proofs.Kept.{read_at}
-use Rattle.written.specs.Costs.{each_takes}
-use Rattle.written.proofs.Costs.{takes_push}
-use Rattle.written.proofs.Noted.{held_more}
+use Rattle.std.proofs.Common.{◌≡◌, ℕ, ◌+◌, List, length, ap, ◌∙◌, arith, rules}
+use denote.Ref.{Bor}
+use lib.ListN.{length-map}
+use Rattle.std.specs.List.{sum_by}
+use Rattle.std.proofs.lemmas.Iterator.{YieldsList-from_map, YieldsList-from_slice}
+use Rattle.std.proofs.lemmas.Iterator.Consumers.{YieldsList-at, fits_by_from_yields_list}
+use Rattle.formula.specs.Shown.{names_of}
+use Rattle.written.proofs.Costs.{takes_short, takes_sum}
 use Rattle.written.proofs.cost.name_cells.Goals as goal
 
-pub loop-i-init : goal.loop-i-init
-unfolding each_takes
-loop-i-init c = (omega arith, refl)
+pub sum-requires-clause-fits : goal.sum-requires-clause-fits
+sum-requires-clause-fits c =
+    let ns = c.args.fresh.now.items in
+    let l = takes_short (names_of c.args.fresh.now) c.requires in
+    let n = length-map ns (λ m. m.now) in
+    let f = ap length c.deref.ensures.0 in
+    fits_by_from_yields_list (λ (m : Bor (List ℕ)). 2 + length m.now) ns c.map.result _
+    (YieldsList-from_map _ (λ (m : Bor (List ℕ)). 2 + length m.now) (YieldsList-at c.map.ensures.source (YieldsList-from_slice ns (cc))) c.map.ensures.closure (λ x r q k. search rules))
+    (omega (arith, takes_sum 2 ns, c.deref.ensures.1))
 
-pub loop-i-preserved : goal.loop-i-preserved
-loop-i-preserved c =
-    let xs = c.args.formula.now
-    in let ps = c.args.fresh.now.places
-    in let i = c.loop-i.i
-    in let l : i < length ps = omega arith
-    in let n = name_there xs (get_or ps i 0)
-    in let same = ap length c.name_at.ensures
-    in let short = c.requires i
-    in let at = ap length (read_at (name_there xs) ps c.args.fresh.now.len i 0 [] c.loop-i-test.true (omega arith))
-    in let e = ap (each_takes 2) (held_more (name_there xs) ps i 0 l) ∙ takes_push 2 (map (name_there xs) (take i ps)) n
-    in (omega (arith, c.loop-i.invariant.0), omega (arith, c.loop-i.invariant.1))
+pub returns-clause-value : goal.returns-clause-value
+returns-clause-value c =
+    let n : c.sum.result ≡ sum_by (λ (m : Bor (List ℕ)). 2 + length m.now) c.args.fresh.now.items = search rules in
+    n ∙ takes_sum 2 c.args.fresh.now.items
+
+pub returns-clause-bound : goal.returns-clause-bound
+returns-clause-bound c =
+    let ns = c.args.fresh.now.items in
+    let v = returns-clause-value c in
+    let n = length-map ns (λ m. m.now) in
+    let f = ap length c.deref.ensures.0 in
+    omega (arith, takes_short (names_of c.args.fresh.now) c.requires, c.deref.ensures.1)

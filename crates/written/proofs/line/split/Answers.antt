@@ -5,7 +5,6 @@ use Rattle.std.proofs.lemmas.Bool.{and_left, and_right, and_from}
 use Rattle.std.proofs.lemmas.Iterator.{YieldsList-from_slice}
 use Rattle.std.proofs.lemmas.Iterator.Search.{position_from_yields_List}
 use Rattle.written.specs.Lines.{pieces, every, good_word, good_line, tab_place, line_words, formula_part}
-use Rattle.written.proofs.Splits.{first_mark}
 use Rattle.written.proofs.line.split.Goals as goal
 
 -- A line by what a search for its first tab gave.
@@ -13,18 +12,15 @@ module _ (xs : List ℕ) (r : Option ℕ) where
   abbrev Found : Type 0
   Found = r ≡ cond (ltb (position_or_len (λ b. eqb b 9) xs) (length xs)) (Some (position_or_len (λ b. eqb b 9) xs)) None
 
-  by_place : Found → r ≡ cond (ltb (tab_place xs) (length xs)) (Some (tab_place xs)) None
-  by_place h = h ∙ ap (λ n. cond (ltb n (length xs)) (Some n) None) (sym (first_mark 9 xs))
-
   no_tab : Found → ((k : ℕ) → r ≡ Some k → ⊥) → good_line xs ≡ false
-  no_tab h none = and_left (ltb (tab_place xs) (length xs)) (every good_word (line_words xs)) (behind (ltb (tab_place xs) (length xs)) (by_place h))
+  no_tab h none = and_left (ltb (tab_place xs) (length xs)) (every good_word (line_words xs)) (behind (ltb (tab_place xs) (length xs)) h)
     where
       behind : (t : Bool) → r ≡ cond t (Some (tab_place xs)) None → t ≡ false
       behind true e = absurd (none (tab_place xs) e)
       behind false e = refl
 
   a_tab : Found → (k : ℕ) → r ≡ Some k → (tab_place xs ≡ k) × (ltb (tab_place xs) (length xs) ≡ true)
-  a_tab h k s = within (ltb (tab_place xs) (length xs)) (by_place h)
+  a_tab h k s = within (ltb (tab_place xs) (length xs)) h
     where
       within : (t : Bool) → r ≡ cond t (Some (tab_place xs)) None → (tab_place xs ≡ k) × (t ≡ true)
       within true e = (cc, refl)

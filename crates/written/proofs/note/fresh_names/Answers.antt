@@ -1,38 +1,34 @@
-use Rattle.std.proofs.Common.{◌≡◌, ◌<◌, [], ◌++◌, map, length, get_or, take, sym, ap, ◌∙◌, append-nil, arith}
-use Rattle.formula.specs.Cuts.{name_there}
+use Rattle.std.proofs.Common.{◌≡◌, ◌<◌, [], ◌++◌, map, length, get_or, take, sym, ap, ◌∙◌, arith}
 use Rattle.formula.specs.Shown.{disjunct_of, names_of}
 use Rattle.written.specs.Model.{fresh, mentioned}
-use Rattle.written.specs.Noted.{fresh_of, known}
+use Rattle.written.specs.Store.{known, lent}
 use Rattle.written.proofs.Noted.{noted_more, held_more, mentioned_push}
 use Rattle.written.proofs.note.fresh_names.Goals as goal
 
-pub loop-k-init : goal.loop-k-init
+pub loop-one-init : goal.loop-one-init
 unfolding fresh mentioned
-loop-k-init c = (omega (arith, c.no_names-fresh.ensures), ap (λ n. map (name_there c.args.formula.now) (take n c.no_names-fresh.result.places)) c.no_names-fresh.ensures)
+loop-one-init c = let n = ap length c.new-fresh.ensures in (omega arith, ap lent c.new-fresh.ensures)
 
-pub loop-k-preserved : goal.loop-k-preserved
-loop-k-preserved c =
-    let xs = c.args.formula.now
-    in let ts = c.args.disjuncts.now.items
-    in let k = c.loop-k.k
-    in let d = get_or ts k c.index-disjuncts-k.result
-    in let ks = known c.args.cells.now c.args.used
-    in let ms = mentioned (map (disjunct_of xs) (take k ts))
-    in let l : k < length ts = omega arith
-    in (
-      omega (arith, c.note_list.ensures.longer, c.note_list-in-loop-k.ensures.longer, c.loop-k.invariant.0),
-      noted_more ks [] ms (names_of xs d.left ++ names_of xs d.right) (fresh_of xs c.loop-k.fresh) (fresh_of xs c.note_list-in-loop-k.new.fresh)
-          c.loop-k.invariant.1
-          (noted_more ks (fresh_of xs c.loop-k.fresh) (names_of xs d.left) (names_of xs d.right) (fresh_of xs c.note_list.new.fresh) (fresh_of xs c.note_list-in-loop-k.new.fresh)
-          c.note_list.ensures.names c.note_list-in-loop-k.ensures.names)
-          ∙ ap (fresh (ks ++ [])) (sym (ap mentioned (held_more (disjunct_of xs) ts k c.index-disjuncts-k.result l)
-          ∙ mentioned_push (map (disjunct_of xs) (take k ts)) (disjunct_of xs d))),
+pub loop-one-preserved : goal.loop-one-preserved
+loop-one-preserved c =
+    let ts = c.args.disjuncts.now.items in
+    let k = c.loop-one.one-index in
+    let d = c.one-item.result in
+    let ks = known c.args.front.now in
+    let now = names_of c.loop-one.fresh in
+    let mid = names_of c.note_list.new.fresh in
+    let after = names_of c.note_list-in-loop-one.new.fresh in
+    let (few, inv) = c.loop-one.invariant in
+    let h : k < length ts = omega (arith, ap length c.deref-one-items.ensures.0) in
+    let here : get_or ts k d ≡ d = ap (λ l. get_or l k d) (sym c.deref-one-items.ensures.0) ∙ sym c.one-item.is in
+    let left = c.note_list.ensures.names ∙ ap (λ ns. now ++ fresh (ks ++ now) (lent ns)) c.deref.ensures.0 in
+    let right = c.note_list-in-loop-one.ensures.names ∙ ap (λ ns. mid ++ fresh (ks ++ mid) (lent ns)) c.deref-in-loop-one.ensures.0 in
+    let l = c.deref.ensures.1 in
+    let m = c.deref-in-loop-one.ensures.1 in (
+      omega (arith, c.note_list.ensures.longer, c.note_list-in-loop-one.ensures.longer),
+      noted_more ks [] (mentioned (map disjunct_of (take k ts))) (names_of d.left ++ names_of d.right) now after inv
+          (noted_more ks now (names_of d.left) (names_of d.right) mid after left right)
+          ∙ ap (fresh (ks ++ [])) (sym (ap mentioned (held_more disjunct_of ts k d h)
+          ∙ mentioned_push (map disjunct_of (take k ts)) (disjunct_of (get_or ts k d))
+          ∙ ap (λ (e : _). mentioned (map disjunct_of (take k ts)) ++ (names_of e.left ++ names_of e.right)) here)),
     )
-
-pub returns : goal.returns
-returns c =
-    let xs = c.args.formula.now
-    in let e : c.loop-k.k ≡ c.args.disjuncts.now.len = omega arith
-    in c.loop-k.invariant.1
-    ∙ ap (λ k. fresh k (mentioned (map (disjunct_of xs) (take c.loop-k.k c.args.disjuncts.now.items)))) (append-nil (known c.args.cells.now c.args.used))
-    ∙ ap (λ n. fresh (known c.args.cells.now c.args.used) (mentioned (map (disjunct_of xs) (take n c.args.disjuncts.now.items)))) e

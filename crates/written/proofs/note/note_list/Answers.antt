@@ -1,25 +1,46 @@
-use Rattle.std.proofs.Common.{◌<◌, [], ◌∷◌, ◌++◌, map, length, get_or, take, sym, ap, ◌∙◌, arith}
-use Rattle.formula.specs.Cuts.{name_there}
-use Rattle.written.specs.Model.{fresh}
-use Rattle.written.specs.Noted.{fresh_of, known}
-use Rattle.written.proofs.Noted.{noted_none, noted_more, held_more}
+use Rattle.std.proofs.Common.{◌≡◌, ℕ, ◌+◌, ◌<◌, Bool, true, false, cond, List, [], ◌∷◌, ◌++◌, length, get_or, take, sym, ap, ◌∙◌, arith}
+use denote.Ref.{Bor}
+use Rattle.std.proofs.lemmas.List.{map_push}
+use Rattle.formula.specs.Shown.{names_of}
+use Rattle.formula.specs.Tokens.{Name}
+use Rattle.written.specs.Model.{among, fresh}
+use Rattle.written.specs.Store.{known, lent}
+use Rattle.written.proofs.Noted.{held_more, no_name, noted_more, noted_none, noted_one}
 use Rattle.written.proofs.note.note_list.Goals as goal
+use Rattle.written.proofs.note.note_list.Goals.{then-not-met, else-not-met}
 
-pub loop-i-init : goal.loop-i-init
-loop-i-init c =
-    (omega arith, noted_none (known c.args.cells.now c.args.used) (fresh_of c.args.formula.now c.args.fresh.now))
+-- One name more of a list, by whether it was met.
+one_more : (ks was now : List Name) (ns : List (Bor (List ℕ))) (i : ℕ) (b : Bool) → i < length ns →
+    now ≡ was ++ fresh (ks ++ was) (lent (take i ns)) → among (get_or ns i no_name).now (ks ++ now) ≡ b →
+    cond b now (now ++ ((get_or ns i no_name).now ∷ [])) ≡ was ++ fresh (ks ++ was) (lent (take (i + 1) ns))
+one_more ks was now ns i b h e f =
+    let x = (get_or ns i no_name).now in
+    noted_more ks was (lent (take i ns)) (x ∷ []) now (cond b now (now ++ (x ∷ []))) e (sym (noted_one ks now x b f))
+    ∙ ap (λ ms. was ++ fresh (ks ++ was) ms) (sym (held_more (λ (n : Bor (List ℕ)). n.now) ns i no_name h))
 
-pub loop-i-preserved : goal.loop-i-preserved
-loop-i-preserved c =
-    let xs = c.args.formula.now
-    in let ps = c.args.names.now.places
-    in let i = c.loop-i.i
-    in let l : i < length ps = omega arith
-    in let fs = fresh_of xs c.args.fresh.now
-    in let ks = known c.args.cells.now c.args.used
-    in (
-      omega (arith, c.note.ensures.longer, c.loop-i.invariant.0),
-      noted_more ks fs (map (name_there xs) (take i ps)) (name_there xs (get_or ps i 0) ∷ []) (fresh_of xs c.loop-i.fresh) (fresh_of xs c.note.new.fresh)
-          c.loop-i.invariant.1 c.note.ensures.names
-          ∙ ap (λ ns. fs ++ fresh (ks ++ fs) ns) (sym (held_more (name_there xs) ps i 0 l)),
-    )
+pub loop-name-init : goal.loop-name-init
+loop-name-init c = (omega arith, noted_none (known c.args.front.now) (names_of c.args.fresh.now))
+
+pub loop-name-preserved : goal.loop-name-preserved
+loop-name-preserved c =
+    let ks = known c.args.front.now in
+    let was = names_of c.args.fresh.now in
+    let now = names_of c.loop-name.fresh in
+    let ns = c.args.names.now in
+    let i = c.loop-name.name-index in
+    let x = (get_or ns i no_name).now in
+    let (few, inv) = c.loop-name.invariant in
+    elim c.if-not-met.branch [
+      | then-not-met w ↦
+          let n = ap (λ v. length v.items) w.fresh-is in
+          let m = w.push.ensures.len in
+          let f = ap (λ fs. among x (ks ++ lent fs)) (sym c.deref.ensures.0) ∙ sym w.if-not-met.ensures in (
+            omega arith,
+            ap names_of w.fresh-is ∙ ap lent w.push.ensures.items ∙ map_push (λ (y : Bor (List ℕ)). y.now) c.loop-name.fresh.items (get_or ns i no_name)
+                ∙ one_more ks was now ns i false c.loop-name-test.true inv f,
+          )
+      | else-not-met w ↦
+          let n = ap (λ v. length v.items) w.fresh-is in
+          let f = ap (λ fs. among x (ks ++ lent fs)) (sym c.deref.ensures.0) ∙ sym w.if-not-met.ensures in
+          (omega arith, ap names_of w.fresh-is ∙ one_more ks was now ns i true c.loop-name-test.true inv f)
+    ]

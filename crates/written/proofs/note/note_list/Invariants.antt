@@ -1,12 +1,10 @@
-use Rattle.std.proofs.Common.{◌≡◌, ◌+◌, ◌≤◌, ◌++◌, map, take}
-use Rattle.formula.specs.Cuts.{name_there}
+use Rattle.std.proofs.Common.{◌≡◌, ◌+◌, ◌≤◌, ◌++◌, length, take}
+use Rattle.formula.specs.Shown.{names_of}
 use Rattle.written.specs.Model.{fresh}
-use Rattle.written.specs.Noted.{fresh_of, known}
+use Rattle.written.specs.Store.{known, lent}
 use Rattle.written.proofs.note.note_list.Given as goal
 
-abbrev pub invariant-loop-i : goal.invariant-loop-i
-invariant-loop-i l =
-    (l.fresh.len ≤ l.initial.fresh.len + l.i)
-    × (fresh_of l.formula l.fresh
-    ≡ fresh_of l.formula l.initial.fresh
-    ++ fresh (known l.cells l.used ++ fresh_of l.formula l.initial.fresh) (map (name_there l.formula) (take l.i l.names.places)))
+abbrev pub invariant-loop-name : goal.invariant-loop-name
+invariant-loop-name l =
+    (length l.fresh.items ≤ length l.initial.fresh.items + l.name-index)
+    × (names_of l.fresh ≡ names_of l.initial.fresh ++ fresh (known l.front ++ names_of l.initial.fresh) (lent (take l.name-index l.names)))

@@ -1,5 +1,4 @@
 use Rattle.std.proofs.Common.{◌≡◌, ◌+◌, ◌*◌, ◌≤◌, length, get_or, sym, ap, ◌∙◌, subst}
-use Rattle.written.specs.Kept.{whole_known}
 use Rattle.written.specs.Pages.{row_at, store}
 use Rattle.written.proofs.Asked.{block_inside}
 use Rattle.written.proofs.closed.Written.block.Goals as goal
@@ -10,10 +9,10 @@ returns c =
     let T = w.table.now in
     let s = store T w.used w.words in
     let e : c.from.result ≡ (row_at T c.args.word).block =
-    c.from.ensures ∙ ap (λ p. get_or T (p + 2) 0) c.row_place-row.ensures
+    c.from.ensures ∙ ap (λ p. get_or T (p + 2) 0) c.row.ensures.value
     in record {
       value = e;
       inside =
           subst (λ b. b + 4 + 3 * get_or T b 0 ≤ length T) (sym e)
-          (block_inside T w.used w.words w.roomy (whole_known s w.whole) c.args.word c.requires);
+          (block_inside T w.used w.words w.roomy w.whole c.args.word c.requires);
     }

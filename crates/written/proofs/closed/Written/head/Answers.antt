@@ -1,5 +1,4 @@
 use Rattle.std.proofs.Common.{get_or, sym, ap, ◌∙◌, subst, arith}
-use Rattle.written.specs.Kept.{whole_known}
 use Rattle.written.specs.Pages.{Inside, store}
 use Rattle.written.specs.Store.{numbers_at, third}
 use Rattle.written.proofs.Asked.{count_known, head_inside, head_lists, word_inside}
@@ -16,7 +15,7 @@ overflow_mul-result c =
     let T = w.table.now in
     let s = store T w.used w.words in
     let h = word_inside T w.used w.words w.roomy c.args.word c.args.disjunct c.requires in
-    let n = count_known T w.used w.words w.roomy (whole_known s w.whole) c.args.word h in
+    let n = count_known T w.used w.words w.roomy w.whole c.args.word h in
     let e = ap (λ b. get_or T b 0) c.block.ensures.value in
     let p = c.requires in
     omega arith
@@ -27,7 +26,7 @@ overflow_add-result-2 c =
     let T = w.table.now in
     let s = store T w.used w.words in
     let h = word_inside T w.used w.words w.roomy c.args.word c.args.disjunct c.requires in
-    let n = count_known T w.used w.words w.roomy (whole_known s w.whole) c.args.word h in
+    let n = count_known T w.used w.words w.roomy w.whole c.args.word h in
     let e = ap (λ b. get_or T b 0) c.block.ensures.value in
     let p = c.requires in
     omega arith
@@ -42,9 +41,9 @@ returns c =
     let e = sym c.block.ensures.value in
     record {
       lists =
-          head_lists T w.used w.words w.roomy (whole_known s w.whole) c.args.word h d c.requires
+          head_lists T w.used w.words w.roomy w.whole c.args.word h d c.requires
           ∙ ap (λ b. numbers_at T (third b d)) e;
       inside =
           subst (λ b. Inside T (third b d)) e
-          (head_inside T w.used w.words w.roomy (whole_known s w.whole) c.args.word h d c.requires);
+          (head_inside T w.used w.words w.roomy w.whole c.args.word h d c.requires);
     }

@@ -7,7 +7,7 @@ unfolding counted
 invariant_of-result c = record {
   roomy = omega arith;
   few = omega arith;
-  whole = ∣ (λ w h. absurd (omega arith), λ p e. absurd (omega arith), λ p q e f g. absurd (omega arith), λ i. omega arith) ∣₁;
+  whole = (λ w h. absurd (omega arith), λ p e. absurd (omega arith), λ p q e f g. absurd (omega arith), λ i. omega arith);
 }
 
 pub returns : goal.returns

@@ -11,7 +11,6 @@ use Rattle.refusal.specs.Faults.{carried, in_text}
 use Rattle.written.specs.declared.draft.Draft.{Draft}
 use Rattle.written.specs.declared.page.Page.{Page}
 use Rattle.written.specs.Drafts.{Book, LeftBehind, OneNumber, SamePage, answered, book, book_of, cells_of, drafted, lined, next_line, texted}
-use Rattle.written.specs.Kept.{whole_known}
 use Rattle.written.specs.Lines.{lines, pieces}
 use Rattle.written.specs.Model.{Named}
 use Rattle.written.specs.Pages.{page_store, store, taken}
@@ -51,7 +50,7 @@ same_book d e (t, u, w) =
     λ i. book_of (store (sym t i) (sym u i) (sym w i)) (taken (sym u i) (sym w i))
 
 sound_numbers : (d : Draft) → OneNumber (model (drafted d)).names
-sound_numbers d = one_number (drafted d) (whole_known (drafted d) d.whole)
+sound_numbers d = one_number (drafted d) d.whole
 
 no_lines : (lim : ℕ) (b : Book) (text : List ℕ) → length text ≡ 0 → texted lim 1 b (lines text) ≡ record { book = b; fault = None }
 unfolding texted lines

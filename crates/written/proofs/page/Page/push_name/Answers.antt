@@ -1,20 +1,11 @@
-use Rattle.std.proofs.Common.{[], ◌∷◌, length, arith}
-use Rattle.written.specs.Pages.{page_store}
+use Rattle.std.proofs.Common.{[], ◌∷◌, length}
 use Rattle.written.specs.Store.{MARK}
-use Rattle.written.proofs.Grown.{with_cells_more}
+use Rattle.written.proofs.Added.{appended_more}
 use Rattle.written.proofs.page.Page.push_name.Goals as goal
 
 pub returns : goal.returns
 returns c =
     let n = c.args.name.now in
-    let s = page_store c.args.self.now in
-    let s1 = page_store c.push.new.self in
-    let s2 = page_store c.push-2.new.self in
-    let s3 = page_store c.push_bytes.new.self in
-    let head = with_cells_more s s1 s2 (MARK ∷ []) (length n ∷ []) c.push.ensures.store c.push-2.ensures.store in
-    record {
-      store = with_cells_more s s2 s3 (MARK ∷ length n ∷ []) n head c.push_bytes.ensures.store;
-      len = omega arith;
-      used = omega arith;
-      words = omega arith;
-    }
+    let p = c.args.self.now in
+    appended_more p c.push-2.new.self c.push_bytes.new.self (MARK ∷ length n ∷ []) n
+    (appended_more p c.push.new.self c.push-2.new.self (MARK ∷ []) (length n ∷ []) c.push.ensures c.push-2.ensures) c.push_bytes.ensures

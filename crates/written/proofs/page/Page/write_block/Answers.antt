@@ -1,53 +1,32 @@
-use Rattle.std.proofs.Common.{[], ◌∷◌, sym, ap, ◌∙◌, subst, arith}
-use Rattle.formula.specs.Shown.{disjuncts_of}
-use Rattle.written.specs.Pages.{page_store, with_cells}
-use Rattle.written.specs.Store.{WholeNames, connectors, heads, numbered, third}
-use Rattle.written.proofs.Added.{first_kept, front_is, block_written, length_places}
-use Rattle.written.proofs.Grown.{with_cells_more}
+use Rattle.std.proofs.Common.{◌≡◌, [], ◌∷◌, ◌++◌, map, length, take, ap, ◌∙◌, arith}
+use Rattle.formula.specs.Shown.{disjunct_of}
+use Rattle.written.specs.Pages.{Appended, page_store}
+use Rattle.written.specs.Store.{block_cells, connectors, heads, numbered, third}
+use Rattle.written.proofs.Added.{appended_as, appended_kept, appended_more, block_written, front_is, length_heads_of}
 use Rattle.written.proofs.page.Page.write_block.Goals as goal
-
-pub write_heads-requires : goal.write_heads-requires
-write_heads-requires c =
-    let n = length_places [] c.args.formula.now c.args.disjuncts.now in
-    record { room = omega (arith, c.requires.room); small = omega (arith, c.requires.room) }
 
 pub write_connectors-requires : goal.write_connectors-requires
 write_connectors-requires c =
-    let p = c.args.self.now in
-    let q = c.write_heads.new.self in
-    let t = c.args.disjuncts.now in
-    let s = page_store p in
-    let s1 = page_store c.push_head.new.self in
-    let s2 = page_store c.push.new.self in
-    let hs = heads (third p.used t.len) (numbered [] (disjuncts_of [] t)) in
-    let four = with_cells_more s s1 s2 (t.len ∷ 0 ∷ 0 ∷ []) (0 ∷ []) c.push_head.ensures.store c.push.ensures.store in
-    let before = with_cells_more s s2 (page_store q) (t.len ∷ 0 ∷ 0 ∷ 0 ∷ []) hs four c.write_heads.ensures.store in
-    let same = first_kept p q (t.len ∷ 0 ∷ 0 ∷ 0 ∷ hs) p.used before (omega arith) (omega arith) (omega (arith, c.requires.room)) in
-    record {
-      room = (omega (arith, c.requires.room), omega arith);
-      whole = subst WholeNames (sym (same ∙ front_is p)) c.requires.whole;
-    }
+    let ts = c.args.disjuncts.now in
+    let n = length_heads_of [] ts (third c.args.self.now.used (length ts)) in
+    (omega (arith, c.requires), omega arith)
 
 pub returns : goal.returns
 returns c =
     let p = c.args.self.now in
+    let p1 = c.push_head.new.self in
+    let p2 = c.push.new.self in
     let q = c.write_heads.new.self in
-    let xs = c.args.formula.now in
-    let t = c.args.disjuncts.now in
-    let s = page_store p in
-    let s1 = page_store c.push_head.new.self in
-    let s2 = page_store c.push.new.self in
-    let hs = heads (third p.used t.len) (numbered [] (disjuncts_of [] t)) in
-    let cs = connectors (numbered s.front (disjuncts_of xs t)) in
-    let four = with_cells_more s s1 s2 (t.len ∷ 0 ∷ 0 ∷ []) (0 ∷ []) c.push_head.ensures.store c.push.ensures.store in
-    let before = with_cells_more s s2 (page_store q) (t.len ∷ 0 ∷ 0 ∷ 0 ∷ []) hs four c.write_heads.ensures.store in
-    let same = first_kept p q (t.len ∷ 0 ∷ 0 ∷ 0 ∷ hs) p.used before (omega arith) (omega arith) (omega (arith, c.requires.room)) in
-    let behind = c.write_connectors.ensures.store
-    ∙ ap (λ F. with_cells (page_store q) (connectors (numbered F (disjuncts_of xs t)))) (same ∙ front_is p)
-    in let all = with_cells_more s (page_store q) (page_store c.write_connectors.new.self) (t.len ∷ 0 ∷ 0 ∷ 0 ∷ hs) cs before behind in
-    record {
-      store = all ∙ ap (with_cells s) (block_written s.front xs t p.used);
-      len = omega arith;
-      used = omega arith;
-      words = omega arith;
-    }
+    let r = c.write_connectors.new.self in
+    let ts = c.args.disjuncts.now in
+    let n = length ts in
+    let F = (page_store p).front in
+    let hs = heads (third p.used n) (numbered [] (map disjunct_of ts)) in
+    let cs = connectors (numbered F (map disjunct_of ts)) in
+    let four = appended_more p p1 p2 (n ∷ 0 ∷ 0 ∷ []) (0 ∷ []) c.push_head.ensures c.push.ensures in
+    let before = appended_more p p2 q (n ∷ 0 ∷ 0 ∷ 0 ∷ []) hs four c.write_heads.ensures in
+    let same : take p.used q.table.now ≡ F = appended_kept p q (n ∷ 0 ∷ 0 ∷ 0 ∷ hs) p.used before (omega arith) (omega (arith, c.requires)) ∙ front_is p in
+    let behind : Appended q r cs =
+    appended_as q r (connectors (numbered (take p.used q.table.now) (map disjunct_of ts))) cs (ap (λ T. connectors (numbered T (map disjunct_of ts))) same) c.write_connectors.ensures in
+    appended_as p r ((n ∷ 0 ∷ 0 ∷ 0 ∷ hs) ++ cs) (block_cells p.used (numbered F (map disjunct_of ts))) (block_written F ts p.used)
+    (appended_more p q r (n ∷ 0 ∷ 0 ∷ 0 ∷ hs) cs before behind)

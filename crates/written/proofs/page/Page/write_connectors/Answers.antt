@@ -1,66 +1,65 @@
-use Rattle.std.proofs.Common.{ℕ, ◌+◌, List, ◌++◌, map, get_or, take, drop, sym, ap, ◌∙◌, subst, arith, length-append}
-use Rattle.formula.specs.Shown.{disjuncts_of, names_of}
+use Rattle.std.proofs.Common.{◌≡◌, ℕ, ◌+◌, List, ◌++◌, map, length, take, drop, ap, ◌∙◌, arith}
+use Rattle.formula.specs.Shown.{disjunct_of}
 use Rattle.written.specs.Model.{number_of}
-use Rattle.written.specs.Pages.{page_store, with_cells}
-use Rattle.written.specs.Store.{Store, WholeNames, connectors, names_from, numbered}
-use Rattle.written.proofs.Added.{Added, added_kept, adding_step, adding_end, connectors_next, connectors_last, connectors_room, length_connectors, length_list}
+use Rattle.written.specs.Pages.{Appended}
+use Rattle.written.specs.Store.{connectors, lent, names_from, numbered}
+use Rattle.written.proofs.Added.{adding_end, adding_step, appended_as, appended_kept, appended_more, connectors_last, connectors_next, connectors_room, length_list}
 use Rattle.written.proofs.page.Page.write_connectors.Goals as goal
 
-pub write_lists-requires : goal.write_lists-requires
-write_lists-requires c =
+pub write_list-requires : goal.write_list-requires
+write_list-requires c =
     let p = c.args.self.now in
-    let q = c.loop-k.self in
-    let b = c.args.block in
-    let inv = c.loop-k.invariant in
-    let a = inv.adds in
-    let same = added_kept p q inv.done b a c.requires.room.1 (omega (arith, c.requires.room.0)) in
-    let left = connectors_room p q (take b p.table.now) c.args.formula.now c.args.disjuncts.now c.loop-k.k
-    c.index-disjuncts-k.result c.loop-k-test.true inv c.requires.room.0
-    in record {
-      room = (left, omega (arith, c.requires.room.1));
-      whole = subst WholeNames (sym same) c.requires.whole;
-    }
+    let room = connectors_room p c.loop-one.self (take c.args.block p.table.now) c.args.disjuncts.now c.loop-one.one-index c.one-item.result
+    c.loop-one-test.true c.one-item.is c.loop-one.invariant c.requires.0 in
+    let d = ap length c.deref.ensures.0 in
+    let u = c.loop-one.invariant.adds in
+    (omega arith, omega (arith, c.requires.1))
 
-pub loop-k-preserved : goal.loop-k-preserved
-loop-k-preserved c =
+pub write_list-requires-in-loop-one : goal.write_list-requires-in-loop-one
+write_list-requires-in-loop-one c =
     let p = c.args.self.now in
-    let q = c.loop-k.self in
+    let room = connectors_room p c.loop-one.self (take c.args.block p.table.now) c.args.disjuncts.now c.loop-one.one-index c.one-item.result
+    c.loop-one-test.true c.one-item.is c.loop-one.invariant c.requires.0 in
+    let d = ap length c.deref.ensures.0 in
+    let e = ap length c.deref-in-loop-one.ensures.0 in
+    let u = c.loop-one.invariant.adds in
+    let w = c.write_list.ensures in
+    let v = length_list (number_of (names_from 0 (take c.args.block c.loop-one.self.table.now))) c.deref.result.now in
+    (omega arith, omega (arith, c.requires.1))
+
+pub loop-one-preserved : goal.loop-one-preserved
+loop-one-preserved c =
+    let p = c.args.self.now in
+    let q = c.loop-one.self in
+    let q1 = c.write_list.new.self in
+    let q2 = c.write_list-in-loop-one.new.self in
     let b = c.args.block in
-    let xs = c.args.formula.now in
-    let t = c.args.disjuncts.now in
-    let k = c.loop-k.k in
+    let ts = c.args.disjuncts.now in
+    let k = c.loop-one.one-index in
+    let one = c.one-item.result in
     let F = take b p.table.now in
     let g = number_of (names_from 0 F) in
-    let one = get_or t.items k c.index-disjuncts-k.result in
-    let inv = c.loop-k.invariant in
-    let a = inv.adds in
-    let same = added_kept p q inv.done b a c.requires.room.1 (omega (arith, c.requires.room.0)) in
-    let l = map g (names_of xs one.left) in
-    let r = map g (names_of xs one.right) in
-    let m = length_list g xs one.left in
-    let n = length_list g xs one.right in
-    let s = length-append l r in
-    let e = c.write_lists.ensures in
-    let written : List ℕ → Store =
-    λ T. with_cells (page_store q) (map (number_of (names_from 0 T)) (names_of xs one.left) ++ map (number_of (names_from 0 T)) (names_of xs one.right))
-    in let added : Added q c.write_lists.new.self (l ++ r) =
-    record { store = e.store ∙ ap written same; len = e.len; used = e.used ∙ omega arith; words = e.words }
-    in adding_step p q (connectors (numbered F (disjuncts_of xs t))) (connectors (numbered F (drop k (disjuncts_of xs t))))
-    (l ++ r) (connectors (numbered F (drop (k + 1) (disjuncts_of xs t)))) inv
-    (connectors_next F xs t k c.index-disjuncts-k.result c.loop-k-test.true) c.write_lists.new.self added
+    let inv = c.loop-one.invariant in
+    let room = connectors_room p q F ts k one c.loop-one-test.true c.one-item.is inv c.requires.0 in
+    let u = inv.adds in
+    let same : take b q.table.now ≡ F = appended_kept p q inv.done b inv.adds c.requires.1 (omega (arith, c.requires.0)) in
+    let number : List ℕ → List _ → List ℕ = λ T ns. map (number_of (names_from 0 T)) (lent ns) in
+    let first : Appended q q1 (map g (lent one.left.items)) =
+    appended_as q q1 (number (take b q.table.now) c.deref.result.now) (map g (lent one.left.items))
+    (ap (λ T. number T c.deref.result.now) same ∙ ap (number F) c.deref.ensures.0) c.write_list.ensures in
+    let same1 : take b q1.table.now ≡ F = appended_kept q q1 (map g (lent one.left.items)) b first (omega (arith, c.requires.1)) (omega arith) ∙ same in
+    let second : Appended q1 q2 (map g (lent one.right.items)) =
+    appended_as q1 q2 (number (take b q1.table.now) c.deref-in-loop-one.result.now) (map g (lent one.right.items))
+    (ap (λ T. number T c.deref-in-loop-one.result.now) same1 ∙ ap (number F) c.deref-in-loop-one.ensures.0) c.write_list-in-loop-one.ensures in
+    adding_step p q (connectors (numbered F (map disjunct_of ts))) (connectors (numbered F (drop k (map disjunct_of ts))))
+    (map g (lent one.left.items) ++ map g (lent one.right.items)) (connectors (numbered F (drop (k + 1) (map disjunct_of ts)))) inv
+    (connectors_next F ts k one c.loop-one-test.true c.one-item.is) q2
+    (appended_more q q1 q2 (map g (lent one.left.items)) (map g (lent one.right.items)) first second)
 
 pub returns : goal.returns
 returns c =
-    let p = c.args.self.now in
-    let xs = c.args.formula.now in
-    let t = c.args.disjuncts.now in
-    let k = c.loop-k.k in
-    let F = take c.args.block p.table.now in
-    let a = adding_end p c.loop-k.self (connectors (numbered F (disjuncts_of xs t))) (connectors (numbered F (drop k (disjuncts_of xs t))))
-    c.loop-k.invariant (connectors_last F xs t k c.loop-k-test.false)
-    in record {
-      store = a.store;
-      len = a.len;
-      used = a.used ∙ ap (λ m. p.used + m) (length_connectors (number_of (names_from 0 F)) (disjuncts_of xs t));
-      words = a.words;
-    }
+    let ts = c.args.disjuncts.now in
+    let k = c.loop-one.one-index in
+    let F = take c.args.block c.args.self.now.table.now in
+    adding_end c.args.self.now c.loop-one.self (connectors (numbered F (map disjunct_of ts)))
+    (connectors (numbered F (drop k (map disjunct_of ts)))) c.loop-one.invariant (connectors_last F ts k c.loop-one-test.false)

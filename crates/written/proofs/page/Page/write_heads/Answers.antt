@@ -1,56 +1,50 @@
-use Rattle.std.proofs.Common.{◌+◌, ◌≤◌, [], ◌∷◌, length, get_or, drop, ap, ◌∙◌, arith}
-use Rattle.formula.specs.Shown.{disjuncts_of}
+use Rattle.std.proofs.Common.{◌≡◌, ℕ, ◌+◌, ◌≤◌, List, [], ◌∷◌, map, length, drop, ap₂, arith}
+use Rattle.formula.specs.Shown.{disjunct_of}
 use Rattle.written.specs.Pages.{limit, taken}
 use Rattle.written.specs.Store.{heads, numbered}
-use Rattle.written.proofs.Added.{Added, adding_room, adding_step, adding_end, heads_next, heads_last, length_next, length_heads_of}
+use Rattle.written.proofs.Added.{adding_end, adding_room, adding_step, appended_as, heads_last, heads_next, length_heads_of, mentioned_next}
 use Rattle.written.proofs.page.Page.write_heads.Goals as goal
 
 pub push_head-requires : goal.push_head-requires
 push_head-requires c =
-    let t = c.args.disjuncts.now in
-    let k = c.loop-k.k in
-    let at = c.loop-k.at in
-    let w = c.index-disjuncts-k.result in
-    let one = get_or t.items k w in
-    let all = heads c.args.from (numbered [] (disjuncts_of [] t)) in
-    let n = length_heads_of [] [] t c.args.from in
-    let room : taken c.args.self.now.used c.args.self.now.words + length all ≤ limit c.args.self.now.table.now =
-    omega (arith, c.requires.room)
-    in let left = adding_room c.args.self.now c.loop-k.self all
-    (heads at (numbered [] (drop k (disjuncts_of [] t)))) (one.left.len ∷ one.right.len ∷ at ∷ [])
-    (heads (at + (one.left.len + one.right.len)) (numbered [] (drop (k + 1) (disjuncts_of [] t)))) c.loop-k.invariant.0
-    (heads_next [] [] t k w c.loop-k-test.true at) room
+    let ts = c.args.disjuncts.now in
+    let k = c.loop-one.one-index in
+    let at = c.loop-one.at in
+    let one = c.one-item.result in
+    let l = length one.left.items in
+    let r = length one.right.items in
+    let all = heads c.args.from (numbered [] (map disjunct_of ts)) in
+    let n = length_heads_of [] ts c.args.from in
+    let room : taken c.args.self.now.used c.args.self.now.words + length all ≤ limit c.args.self.now.table.now = omega (arith, c.requires.room) in
+    let left = adding_room c.args.self.now c.loop-one.self all (heads at (numbered [] (drop k (map disjunct_of ts)))) (l ∷ r ∷ at ∷ [])
+    (heads (at + (l + r)) (numbered [] (drop (k + 1) (map disjunct_of ts)))) c.loop-one.invariant.0
+    (heads_next [] ts k one c.loop-one-test.true c.one-item.is at) room
     in omega arith
 
-pub loop-k-preserved : goal.loop-k-preserved
-loop-k-preserved c =
-    let t = c.args.disjuncts.now in
-    let k = c.loop-k.k in
-    let at = c.loop-k.at in
-    let w = c.index-disjuncts-k.result in
-    let one = get_or t.items k w in
-    let all = heads c.args.from (numbered [] (disjuncts_of [] t)) in
-    let e = c.push_head.ensures in
-    let added : Added c.loop-k.self c.push_head.new.self (one.left.len ∷ one.right.len ∷ at ∷ []) =
-    record { store = e.store; len = e.len; used = e.used; words = e.words }
-    in let m = length_next [] [] t k w c.loop-k-test.true in (
-      adding_step c.args.self.now c.loop-k.self all
-          (heads at (numbered [] (drop k (disjuncts_of [] t)))) (one.left.len ∷ one.right.len ∷ at ∷ [])
-          (heads (at + (one.left.len + one.right.len)) (numbered [] (drop (k + 1) (disjuncts_of [] t)))) c.loop-k.invariant.0
-          (heads_next [] [] t k w c.loop-k-test.true at) c.push_head.new.self added,
-      omega (arith, c.loop-k.invariant.1),
+pub loop-one-preserved : goal.loop-one-preserved
+loop-one-preserved c =
+    let ts = c.args.disjuncts.now in
+    let k = c.loop-one.one-index in
+    let at = c.loop-one.at in
+    let one = c.one-item.result in
+    let l = length one.left.items in
+    let r = length one.right.items in
+    let all = heads c.args.from (numbered [] (map disjunct_of ts)) in
+    let here : ◌≡◌ {A = List ℕ} (c.len-left.result ∷ c.len-right.result ∷ at ∷ []) (l ∷ r ∷ at ∷ []) =
+    ap₂ (λ (x y : ℕ). x ∷ y ∷ at ∷ []) c.len-left.ensures.value c.len-right.ensures.value in
+    let m = mentioned_next [] ts k one c.loop-one-test.true c.one-item.is in
+    rw (c.len-left.ensures.value, c.len-right.ensures.value) (
+      adding_step c.args.self.now c.loop-one.self all (heads at (numbered [] (drop k (map disjunct_of ts)))) (l ∷ r ∷ at ∷ [])
+          (heads (at + (l + r)) (numbered [] (drop (k + 1) (map disjunct_of ts)))) c.loop-one.invariant.0
+          (heads_next [] ts k one c.loop-one-test.true c.one-item.is at) c.push_head.new.self
+          (appended_as c.loop-one.self c.push_head.new.self (c.len-left.result ∷ c.len-right.result ∷ at ∷ []) (l ∷ r ∷ at ∷ []) here c.push_head.ensures),
+      omega (arith, c.loop-one.invariant.1),
     )
 
 pub returns : goal.returns
 returns c =
-    let t = c.args.disjuncts.now in
-    let k = c.loop-k.k in
-    let at = c.loop-k.at in
-    let a = adding_end c.args.self.now c.loop-k.self (heads c.args.from (numbered [] (disjuncts_of [] t)))
-    (heads at (numbered [] (drop k (disjuncts_of [] t)))) c.loop-k.invariant.0 (heads_last [] [] t k at c.loop-k-test.false)
-    in record {
-      store = a.store;
-      len = a.len;
-      used = a.used ∙ ap (λ m. c.args.self.now.used + m) (length_heads_of [] [] t c.args.from);
-      words = a.words;
-    }
+    let ts = c.args.disjuncts.now in
+    let k = c.loop-one.one-index in
+    let at = c.loop-one.at in
+    adding_end c.args.self.now c.loop-one.self (heads c.args.from (numbered [] (map disjunct_of ts)))
+    (heads at (numbered [] (drop k (map disjunct_of ts)))) c.loop-one.invariant.0 (heads_last [] ts k at c.loop-one-test.false)

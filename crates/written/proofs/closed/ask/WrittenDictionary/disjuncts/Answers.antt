@@ -1,5 +1,4 @@
 use Rattle.std.proofs.Common.{length, get_or, sym, ap, ◌∙◌, arith}
-use Rattle.written.specs.Kept.{whole_known}
 use Rattle.written.specs.Model.{lexicon}
 use Rattle.written.specs.Pages.{store}
 use Rattle.written.specs.Store.{model}
@@ -18,5 +17,5 @@ returns c =
     let s = store T w.used w.words in
     c.from.ensures
     ∙ (ap (λ b. get_or T b 0) c.block.ensures.value
-    ∙ (sym (count_known T w.used w.words w.roomy (whole_known s w.whole) c.from-word.result (omega arith))
+    ∙ (sym (count_known T w.used w.words w.roomy w.whole c.from-word.result (omega arith))
     ∙ ap (λ k. length ((lexicon (model s)).disjuncts k)) c.from-word.ensures))

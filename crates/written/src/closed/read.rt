@@ -1,0 +1,65 @@
+ghost use Rattle.std.specs.Prelude.{◌≡◌, ◌+◌, ◌-◌, ◌*◌, ◌<◌, ◌≤◌, map, length, IfSome, position, slice_index_or};
+ghost use Rattle.written.specs.Lines.{pieces, some_among};
+ghost use Rattle.written.specs.Matching.{same};
+ghost use Rattle.written.specs.Meaning.{spent, written};
+ghost use Rattle.written.specs.Model.{Entry, no_entry};
+ghost use Rattle.written.specs.Pages.{limit, row_place};
+ghost use Rattle.written.specs.Store.{model};
+
+use crate::closed::Written;
+use crate::front::spells;
+use crate::page::write::LIMIT;
+
+impl<'t> Written<'t> {
+    /// The cells that are written from the front.
+    pub(crate) fn front(&self) -> &[u16]
+        ensures value { result.now ≡ (written self.now).front }
+        ensures small { length result.now ≤ 65535 }
+    {
+        &self.table[..self.used]
+    }
+
+    /// Where the row of a word begins.
+    pub(crate) fn row(&self, word: usize) -> usize
+        requires { word < self.now.words }
+        ensures value { result ≡ row_place self.now.table.now word }
+        ensures inside { result + 4 ≤ length self.now.table.now }
+    {
+        self.table.len().min(LIMIT) - 4 * (word + 1)
+    }
+
+    /// The bytes of a word, one to a cell.
+    pub(crate) fn bytes(&self, word: usize) -> &[u16]
+        requires { word < self.now.words }
+        ensures { result.now ≡ (slice_index_or (model (written self.now)).entries word no_entry).word }
+    {
+        let row = self.row(word);
+        let first = usize::from(self.table[row]);
+        let len = usize::from(self.table[row + 1]);
+        &self.table[first..first + len]
+    }
+
+    /// The place of a word among the words, if it is one of them.
+    pub(crate) fn place(&self, word: &[u8]) -> Option<usize>
+        ensures value { result ≡ position (λ (e : Entry). same e.word word.now) (model (written self.now)).entries }
+        ensures within { IfSome result (λ k. k < 256) }
+    {
+        (0..self.words).position(|k| spells(self.bytes(k), word))
+    }
+
+    /// Whether one of some words is known.
+    pub(crate) fn knows_any(&self, words: &[u8]) -> bool
+        ensures { result ≡ some_among (map (λ (e : Entry). e.word) (model (written self.now)).entries) (pieces 32 words.now) }
+    {
+        words
+            .split(|b| *b == b' ')
+            .any(|word| self.place(word).is_some())
+    }
+
+    /// How many cells of the table may still be taken.
+    pub(crate) fn room(&self) -> usize
+        ensures { result ≡ limit self.now.table.now - spent self.now }
+    {
+        self.table.len().min(LIMIT) - self.cells()
+    }
+}
