@@ -7,42 +7,68 @@
 ghost use Rattle.std.specs.Prelude.{◌≡◌};
 ghost use Rattle.refusal.specs.Refusals.{number_of};
 
-use std::fmt;
+use thiserror::Error;
 
 pub mod fault;
 
 /// What was wrong, by whose hand it came.
-#[derive(Clone, Copy, PartialEq, Eq, Debug)]
+#[derive(Clone, Copy, PartialEq, Eq, Debug, Error)]
 pub enum Refusal {
     // who writes a dictionary
+    #[error("the line is not words, one tab and a formula")]
     LineForm,
+    #[error("no token begins with this mark")]
     UnknownMark,
+    #[error("the formula allows no such token here")]
     OutOfPlace,
+    #[error("brackets are open 16 deep already")]
     TooDeep,
+    #[error("the connector's name has no sign or more than 8 bytes")]
     BadName,
+    #[error("the formula has more than 64 ways")]
     ManyWays,
+    #[error("a disjunct has more than 8 connectors on one side")]
     LongList,
+    #[error("a word of the line is defined already or stands twice")]
     WordTaken,
+    #[error("the table is too short or would hold more than 256 words")]
     TableShort,
+    #[error("a chain has 1 to 64 words")]
     ChainSize,
     // who edits a sentence
+    #[error("the folio holds 40 words already")]
     FolioFull,
+    #[error("the folio has no words")]
     NoWords,
+    #[error("there is no such position")]
     NoPosition,
+    #[error("the word has no such disjunct")]
     NoDisjunct,
+    #[error("the sum over all linkages is nothing")]
     NothingStands,
     // who lends memory
+    #[error("too few cells were lent")]
     FewCells,
+    #[error("too few places for choices or links were lent")]
     ShortLoan,
+    #[error("the input has more than 32768 bytes")]
     LongInput,
     // who files a linkage
+    #[error("there is not one choice for each word")]
     ChoiceCount,
+    #[error("a choice names no disjunct of its word")]
     NoChoice,
+    #[error("a choice names a struck disjunct")]
     StruckChoice,
+    #[error("a link's ends do not rise or lie outside the sentence")]
     LinkEnds,
+    #[error("the links do not strictly rise")]
     LinkOrder,
+    #[error("two links cross")]
     Crossing,
+    #[error("a word has a wrong number of links")]
     LinkCount,
+    #[error("the connectors at a link's ends do not match")]
     NoMatch,
 }
 
@@ -79,42 +105,5 @@ impl Refusal {
             Refusal::LinkCount => 47,
             Refusal::NoMatch => 48,
         }
-    }
-
-    fn message(&self) -> &'static str {
-        match self {
-            Refusal::LineForm => "the line is not words, one tab and a formula",
-            Refusal::UnknownMark => "no token begins with this mark",
-            Refusal::OutOfPlace => "the formula allows no such token here",
-            Refusal::TooDeep => "brackets are open 16 deep already",
-            Refusal::BadName => "the connector's name has no sign or more than 8 bytes",
-            Refusal::ManyWays => "the formula has more than 64 ways",
-            Refusal::LongList => "a disjunct has more than 8 connectors on one side",
-            Refusal::WordTaken => "a word of the line is defined already or stands twice",
-            Refusal::TableShort => "the table is too short or would hold more than 256 words",
-            Refusal::ChainSize => "a chain has 1 to 64 words",
-            Refusal::FolioFull => "the folio holds 40 words already",
-            Refusal::NoWords => "the folio has no words",
-            Refusal::NoPosition => "there is no such position",
-            Refusal::NoDisjunct => "the word has no such disjunct",
-            Refusal::NothingStands => "the sum over all linkages is nothing",
-            Refusal::FewCells => "too few cells were lent",
-            Refusal::ShortLoan => "too few places for choices or links were lent",
-            Refusal::LongInput => "the input has more than 32768 bytes",
-            Refusal::ChoiceCount => "there is not one choice for each word",
-            Refusal::NoChoice => "a choice names no disjunct of its word",
-            Refusal::StruckChoice => "a choice names a struck disjunct",
-            Refusal::LinkEnds => "a link's ends do not rise or lie outside the sentence",
-            Refusal::LinkOrder => "the links do not strictly rise",
-            Refusal::Crossing => "two links cross",
-            Refusal::LinkCount => "a word has a wrong number of links",
-            Refusal::NoMatch => "the connectors at a link's ends do not match",
-        }
-    }
-}
-
-impl fmt::Display for Refusal {
-    fn fmt<W: fmt::Write>(&self, f: &mut fmt::Formatter<W>) -> fmt::Result {
-        f.write_str(self.message())
     }
 }
