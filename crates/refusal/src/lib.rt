@@ -11,65 +11,65 @@ use thiserror::Error;
 
 pub mod fault;
 
-/// What was wrong, by whose hand it came.
+/// What was wrong, by whose hand it came, with the number by which it is cited.
 #[derive(Clone, Copy, PartialEq, Eq, Debug, Error)]
 pub enum Refusal {
     // who writes a dictionary
     #[error("the line is not words, one tab and a formula")]
-    LineForm,
+    LineForm = 11,
     #[error("no token begins with this mark")]
-    UnknownMark,
+    UnknownMark = 12,
     #[error("the formula allows no such token here")]
-    OutOfPlace,
+    OutOfPlace = 13,
     #[error("brackets are open 16 deep already")]
-    TooDeep,
+    TooDeep = 14,
     #[error("the connector's name has no sign or more than 8 bytes")]
-    BadName,
+    BadName = 15,
     #[error("the formula has more than 64 ways")]
-    ManyWays,
+    ManyWays = 16,
     #[error("a disjunct has more than 8 connectors on one side")]
-    LongList,
+    LongList = 17,
     #[error("a word of the line is defined already or stands twice")]
-    WordTaken,
+    WordTaken = 18,
     #[error("the table is too short or would hold more than 256 words")]
-    TableShort,
+    TableShort = 19,
     #[error("a chain has 1 to 64 words")]
-    ChainSize,
+    ChainSize = 20,
     // who edits a sentence
     #[error("the folio holds 40 words already")]
-    FolioFull,
+    FolioFull = 21,
     #[error("the folio has no words")]
-    NoWords,
+    NoWords = 22,
     #[error("there is no such position")]
-    NoPosition,
+    NoPosition = 23,
     #[error("the word has no such disjunct")]
-    NoDisjunct,
+    NoDisjunct = 24,
     #[error("the sum over all linkages is nothing")]
-    NothingStands,
+    NothingStands = 25,
     // who lends memory
     #[error("too few cells were lent")]
-    FewCells,
+    FewCells = 31,
     #[error("too few places for choices or links were lent")]
-    ShortLoan,
+    ShortLoan = 32,
     #[error("the input has more than 32768 bytes")]
-    LongInput,
+    LongInput = 33,
     // who files a linkage
     #[error("there is not one choice for each word")]
-    ChoiceCount,
+    ChoiceCount = 41,
     #[error("a choice names no disjunct of its word")]
-    NoChoice,
+    NoChoice = 42,
     #[error("a choice names a struck disjunct")]
-    StruckChoice,
+    StruckChoice = 43,
     #[error("a link's ends do not rise or lie outside the sentence")]
-    LinkEnds,
+    LinkEnds = 44,
     #[error("the links do not strictly rise")]
-    LinkOrder,
+    LinkOrder = 45,
     #[error("two links cross")]
-    Crossing,
+    Crossing = 46,
     #[error("a word has a wrong number of links")]
-    LinkCount,
+    LinkCount = 47,
     #[error("the connectors at a link's ends do not match")]
-    NoMatch,
+    NoMatch = 48,
 }
 
 impl Refusal {
@@ -77,33 +77,6 @@ impl Refusal {
     pub fn number(&self) -> u8
         ensures { result ≡ number_of self.now }
     {
-        match self {
-            Refusal::LineForm => 11,
-            Refusal::UnknownMark => 12,
-            Refusal::OutOfPlace => 13,
-            Refusal::TooDeep => 14,
-            Refusal::BadName => 15,
-            Refusal::ManyWays => 16,
-            Refusal::LongList => 17,
-            Refusal::WordTaken => 18,
-            Refusal::TableShort => 19,
-            Refusal::ChainSize => 20,
-            Refusal::FolioFull => 21,
-            Refusal::NoWords => 22,
-            Refusal::NoPosition => 23,
-            Refusal::NoDisjunct => 24,
-            Refusal::NothingStands => 25,
-            Refusal::FewCells => 31,
-            Refusal::ShortLoan => 32,
-            Refusal::LongInput => 33,
-            Refusal::ChoiceCount => 41,
-            Refusal::NoChoice => 42,
-            Refusal::StruckChoice => 43,
-            Refusal::LinkEnds => 44,
-            Refusal::LinkOrder => 45,
-            Refusal::Crossing => 46,
-            Refusal::LinkCount => 47,
-            Refusal::NoMatch => 48,
-        }
+        *self as u8
     }
 }
