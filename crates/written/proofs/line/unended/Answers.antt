@@ -5,7 +5,7 @@ use Rattle.std.proofs.lemmas.List.{drop_more, drop_all}
 use Rattle.std.proofs.lemmas.Bool.{eqb-true}
 use Rattle.written.specs.Lines.{lines, pieces}
 use Rattle.written.proofs.Splits.{lines_ended, lines_open}
-use Rattle.written.proofs.draft.text.unended.Goals as goal
+use Rattle.written.proofs.line.unended.Goals as goal
 
 last_byte : (xs : List ℕ) → 0 < length xs → drop (length xs - 1) xs ≡ get_or xs (length xs - 1) 0 ∷ []
 last_byte xs h =
@@ -31,4 +31,6 @@ by_end xs d (Some x) h q (e, t, n) =
     ∙ ap lines (ap (◌++◌ (take (length xs - 1) xs)) (ap (λ b. b ∷ []) (sym m) ∙ sym (last_byte xs h)) ∙ take-append-drop (length xs - 1) xs)
 
 pub returns : goal.returns
-returns c = let xs = c.args.text.now in ap (λ z. pieces 10 z.now) c.unwrap_or.ensures ∙ by_end xs c.args.text c.strip_suffix.result c.requires (λ i. xs) c.strip_suffix.ensures.cases
+returns c some =
+    let xs = c.args.text.now in
+    ap (λ z. pieces 10 z.now) c.unwrap_or.ensures ∙ by_end xs c.args.text c.strip_suffix.result some refl c.strip_suffix.ensures.cases
