@@ -1,9 +1,9 @@
 -- Marks that spare what trimming keeps: the partial linkages are the same with them, what is kept is the same, and so is the sum
 -- over all linkages.
-use Rattle.std.proofs.Common.{◌≡◌, ℕ, zero, suc, ◌<◌, Bool, false, not, ◌&&◌, ◌||◌, ltb, ◌↔◌, List, [], ◌∷◌, map, length, get_or, sym, refl, ap, ◌∙◌, subst, ap₂, inl, inr, arith}
+use Rattle.std.proofs.Common.{◌≡◌, ℕ, zero, suc, ◌<◌, Bool, false, not, ◌&&◌, ◌||◌, ltb, ◌↔◌, List, [], ◌∷◌, map, length, get_or, sym, refl, ap, ◌∙◌, subst, ap₂, arith}
 use mathlib.Core.Path.{fun_ext}
 use Rattle.tally.specs.Semiring.{Semiring, Laws}
-use Rattle.std.proofs.lemmas.Bool.{both_ways, cases_Bool, not_from_false, not-true, or_from, or_parts}
+use Rattle.std.proofs.lemmas.Bool.{both_ways, false_from_ne_true, not_from_false, not-true, or_from, or_parts}
 use Rattle.linkage.specs.Lists.{◌∈◌, here, there, every, place_of, range, some_of}
 use Rattle.linkage.specs.Sentences.{Choice, Position, Sentence, asked, bare, choices, nowhere, position, size, takes, unstruck}
 use Rattle.linkage.specs.Linkages.{Linkage, Partial, Rising, Rules, after, before, choice_at, linkages}
@@ -126,7 +126,7 @@ module _ (s : Sentence) (m : ℕ → ℕ → Bool) where
 
   module _ (spares : Spares s m) where
     unmarked : (i k : ℕ) → used i k ∈ kept s → m i k ≡ false
-    unmarked i k n = elim (cases_Bool (m i k)) [ inl e ↦ absurd (spares i k e n) | inr e ↦ e ]
+    unmarked i k n = false_from_ne_true (m i k) (λ e. spares i k e n)
 
     pub in_partial : (x : Linkage) → Partial s x → Partial s' x
     in_partial x p =
@@ -147,7 +147,7 @@ module _ (s : Sentence) (m : ℕ → ℕ → Bool) where
         closed : Closed s' (kept s)
         closed = record { unstruck = kept_unmarked; each_met = λ u n. same_met (kept s) u ∙ (kept_closed s).each_met u n }
 
-    -- A step of a trim that goes on from these marks: what is not met by unmarked disjuncts may be marked too.
+    -- For the trim to come. A step of one that goes on from these marks: what is not met by unmarked disjuncts may be marked too.
     pub unmet_unkept : (u : Used) → met s' (all_used s') u ≡ false → u ∈ kept s → ⊥
     unmet_unkept u e n =
         both_ways (met s' (all_used s') u) e

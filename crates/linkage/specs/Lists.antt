@@ -1,8 +1,7 @@
 -- What is said of lists: what stands in them, that nothing stands twice, and the lists of positions.
-use Rattle.std.specs.Prelude.{◌≡◌, ℕ, zero, suc, ◌-◌, Bool, true, false, cond, ◌&&◌, ◌||◌, List, [], ◌∷◌, ◌++◌, map, ◌==◌, nat_eq, refl}
+use Rattle.std.specs.Prelude.{◌≡◌, ℕ, zero, suc, ◌-◌, Bool, true, false, cond, List, [], ◌∷◌, ◌++◌, map, ◌==◌, nat_eq, refl}
 use Rattle.std.proofs.Math.Option.{Option, none, some}
-
--- The list's words of the library.
+-- The library's words, by the names that the definitions of linkages use.
 pub use Rattle.std.specs.List.{filter, flat_map as concatMap, list_all as every, list_any as some_of}
 
 infixl 25 ◌∈◌
