@@ -141,13 +141,14 @@ module _ (s : Sentence) (m : ℕ → ℕ → Bool) where
         in_all_used s' u.at u.number (omega (arith, same_size))
         (in_unmarked u.at u.number h.0 h.1 (unmarked u.at u.number n))
 
+    -- This lemma and the next two are for the trim to come; nothing uses them yet. What is kept is the same with the marks.
     pub kept_marked : (u : Used) → (u ∈ kept s') ↔ (u ∈ kept s)
     kept_marked u = (kept_largest s (kept s') (of_closed (kept s') (kept_closed s')) u, kept_largest s' (kept s) closed u)
       where
         closed : Closed s' (kept s)
         closed = record { unstruck = kept_unmarked; each_met = λ u n. same_met (kept s) u ∙ (kept_closed s).each_met u n }
 
-    -- For the trim to come. A step of one that goes on from these marks: what is not met by unmarked disjuncts may be marked too.
+    -- A step of a trim that goes on from these marks: what is not met by unmarked disjuncts may be marked too.
     pub unmet_unkept : (u : Used) → met s' (all_used s') u ≡ false → u ∈ kept s → ⊥
     unmet_unkept u e n =
         both_ways (met s' (all_used s') u) e

@@ -26,6 +26,7 @@ impl Fewest {
     pub const NOTHING: Fewest = Fewest { links: None };
 
     /// A number as a value: nothing for 2^32 - 1.
+    // A name of its own and no `From`, since one number is not kept.
     pub fn of(number: u32) -> Fewest
         ensures { result ≡ fewest number }
     {

@@ -28,6 +28,7 @@ impl FewestWays {
     pub const NOTHING: FewestWays = FewestWays { least: None };
 
     /// A number with its count: nothing where the number is 2^32 - 1 or the count 0.
+    // A name of its own and no `From`, since not every pair is kept.
     pub fn of(number: u32, count: u64) -> FewestWays
         ensures { result ≡ fewest_ways number count }
     {
