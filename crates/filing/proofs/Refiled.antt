@@ -33,7 +33,7 @@ no_sooner e f t = elim (earlier_parts e f t) [ inl h ↦ omega arith | inr h ↦
 pub ordered_parts : (e : Wire) (es : List Wire) → ordered (e ∷ es) ≡ true → ((f : Wire) → f ∈ es → earlier e f ≡ true) × (ordered es ≡ true)
 ordered_parts e es t = let b = and_parts (every (earlier e) es) (ordered es) t in (λ f m. every_in (earlier e) b.0 m, b.1)
 
-ordered_cons : (e : Wire) (es : List Wire) → ((f : Wire) → f ∈ es → earlier e f ≡ true) → ordered es ≡ true → ordered (e ∷ es) ≡ true
+pub ordered_cons : (e : Wire) (es : List Wire) → ((f : Wire) → f ∈ es → earlier e f ≡ true) → ordered es ≡ true → ordered (e ∷ es) ≡ true
 ordered_cons e es h t = and_from (every (earlier e) es) (ordered es) (every_of (earlier e) es h) t
 
 ordered_filter : (p : Wire → Bool) (es : List Wire) → ordered es ≡ true → ordered (filter p es) ≡ true

@@ -14,3 +14,7 @@ filter_same p (x ∷ xs) = ap (λ ys. cond (p x) (x ∷ ys) ys) (filter_same p x
 pub range_same : (a n : ℕ) → linked.range a n ≡ range_with_len a n
 range_same a zero = refl
 range_same a (suc n) = ap (λ ks. a ∷ ks) (range_same (suc a) n ∙ ap (λ b. range_with_len b n) (sym (add-one a)))
+
+-- A test of each number below n.
+pub every_below : (p : ℕ → Bool) (n : ℕ) → list_all p (range_with_len 0 n) ≡ linked.every p (linked.range 0 n)
+every_below p n = ap (list_all p) (sym (range_same 0 n)) ∙ sym (every_all p (linked.range 0 n))
