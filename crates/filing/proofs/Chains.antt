@@ -1,8 +1,21 @@
 -- What chains over links say in the words of linkages; and that neighbours in order make all in order.
-use Rattle.std.proofs.Common.{◌≡◌, ℕ, zero, suc, ◌+◌, ◌<◌, ◌≤◌, Bool, true, false, cond, ◌&&◌, List, [], ◌∷◌, ◌++◌, length, get_or, take, sym, refl, ap, ◌∙◌, subst, inl, inr, add-one, arith}
-use Rattle.std.specs.List.{IsAllAdjacentAnswer, filter, list_all}
+use Rattle.std.proofs.Common.{Option, ◌≡◌, ℕ, zero, suc, ◌+◌, ◌<◌, ◌≤◌, Bool, true, false, cond, ◌&&◌, List, [], ◌∷◌, ◌++◌, length, get_or, take, sym, refl, ap, ◌∙◌, subst, inl, inr, add-one, arith}
+use Rattle.std.specs.List.{FoldsTo, IsAllAdjacentAnswer, filter, list_all}
 use Rattle.std.proofs.lemmas.Bool.{both_ways, cases_Bool}
 use Rattle.std.proofs.lemmas.List.{map_more, take_all}
+use denote.Param.Members.{Mut}
+use denote.Ref.{Bor}
+use Rattle.std.specs.declared.iter.Filter.{Filter}
+use Rattle.std.specs.declared.slice.Iter.{Iter}
+use Rattle.std.specs.Fn.{Called, CalledAt}
+use Rattle.std.specs.Iterator.{Drains, YieldsThen}
+use Rattle.std.specs.Iterator.Adapters.{filter_callee, filter_source, filter_steps}
+use Rattle.std.specs.Option.{MatchOption}
+use Rattle.std.specs.Slice.Iter.{iter_rest}
+use Rattle.std.proofs.iter.Yields.{fronts}
+use Rattle.std.proofs.lemmas.Iterator.{YieldsList-from_slice}
+use Rattle.std.proofs.lemmas.Iterator.Consumers.{YieldsList-at, YieldsList-from_filter, count_from_yields_List}
+use Rattle.std.proofs.lemmas.Iterator.Search.{all_from_yields_List}
 use Rattle.linkage.specs.Lists as linked
 use Rattle.linkage.specs.Lists.{◌∈◌, here, there, every}
 use Rattle.linkage.specs.Links.{earlier, ends}
@@ -10,6 +23,7 @@ use Rattle.linkage.specs.declared.link.Link.{Link}
 use Rattle.linkage.proofs.Joins.{Wire}
 use Rattle.linkage.proofs.Members.{in_cases}
 use Rattle.filing.specs.Filings.{ordered, pairs}
+use Rattle.filing.proofs.Counted.{count_of}
 use Rattle.filing.proofs.Refiled.{earlier_trans, ordered_cons, ordered_parts}
 
 module _ (p : Wire → Bool) where
@@ -75,3 +89,19 @@ pairs_more ls i d h = map_more ends ls i d h
 
 pub pairs_all : (ls : List Link) (i : ℕ) → length ls ≤ i → pairs (take i ls) ≡ pairs ls
 pairs_all ls i h = ap pairs (take_all i ls h)
+
+-- What chains over links give, where the closure computes a test of a link.
+module _ (p : Wire → Bool) (ls : List Link) {F : Type 0} {f : F} (it : Iter Link) (rest : iter_rest it ≡ ls) where
+  pub all_links : {g : Mut F (Bor Link × Unit {0}) Bool} (u : Iter Link) (r : Bool)
+      → (xs : List (Bor Link)) × (o : Option (Bor Link)) × (j : F) × YieldsThen fronts it xs o u × FoldsTo (λ q x k. Called g q (x, tt) true k) f xs j
+      × MatchOption o (r ≡ true) (λ x. (r ≡ false) × ((h : F) × Called g j (x, tt) false h))
+      → ((x : Bor Link) (b : Bool) (q : F) → Called g f (x, tt) b q → (q ≡ f) × (b ≡ p (ends x.now))) → r ≡ every p (pairs ls)
+  all_links u r ran computes = all_from_yields_List (λ l. p (ends l)) u f r ran (YieldsList-from_slice ls rest) computes ∙ every_pair p ls
+
+  pub count_links : {g : Mut F (Bor (Bor Link) × Unit {0}) Bool} (s : Filter (Iter Link) F) → filter_source s ≡ it → filter_callee s ≡ f → (r : ℕ)
+      → (xs : List (Bor Link)) × Drains (filter_steps fronts g) s xs × (r ≡ length xs)
+      → ((x : Bor Link) (b : Bool) (q : F) → CalledAt g f x b q → (q ≡ f) × (b ≡ p (ends x.now))) → r ≡ count_of p (pairs ls)
+  count_links {g} s source callee r ran computes =
+      count_from_yields_List s r ran
+      (YieldsList-from_filter g (λ l. p (ends l)) (YieldsList-at source (YieldsList-from_slice ls rest)) callee computes)
+      ∙ counted_pairs p ls

@@ -61,4 +61,3 @@ right lex few g = judged_right (ledgers.sentence lex g) each
       | inl h ↦ subst (λ (p : Position). length p.disjuncts ≤ 64) (sym (position_there lex g i h)) (few (row_at g i).word)
       | inr h ↦ subst (λ (p : Position). length p.disjuncts ≤ 64) (sym (position_past lex g i h)) (omega arith)
     ]
-

@@ -7,7 +7,7 @@ use Rattle.linkage.specs.Linkages.{Linkage, Place, Rising, choice_at, links, lin
 use Rattle.linkage.specs.Links.{earlier}
 use Rattle.linkage.specs.Sentences.{Choice, bare, takes}
 use Rattle.linkage.proofs.Joins.{Wire}
-use Rattle.linkage.proofs.Members.{every_in, every_of, filter_++, in_cases, in_one, in_split, of_filter, of_map}
+use Rattle.linkage.proofs.Members.{every_in, every_of, filter_++, in_cases, in_split, of_filter, of_map}
 use Rattle.linkage.proofs.Ranges.{of_range}
 use Rattle.linkage.proofs.Rows.{Rows, behind, rising_in}
 use Rattle.linkage.proofs.Weights.{of_links}
@@ -50,9 +50,6 @@ ordered_++ (e ∷ es) fs t u h =
     let b = ordered_parts e es t in
     ordered_cons e (es ++ fs) (λ f m. elim (in_split es m) [ inl k ↦ b.0 f k | inr k ↦ h e f (here refl) k ])
     (ordered_++ es fs b.1 u (λ d f p q. h d f (there p) q))
-
-pub ordered_snoc : (es : List Wire) (e : Wire) → ordered es ≡ true → ((f : Wire) → f ∈ es → earlier f e ≡ true) → ordered (es ++ (e ∷ [])) ≡ true
-ordered_snoc es e t h = ordered_++ es (e ∷ []) t refl (λ f g m k. in_one k (λ g. earlier f g ≡ true) (h f m))
 
 pub earlier_trans : (e f g : Wire) → earlier e f ≡ true → earlier f g ≡ true → earlier e g ≡ true
 earlier_trans e f g p q = elim (earlier_parts e f p) [

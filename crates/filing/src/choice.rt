@@ -2,9 +2,9 @@ ghost use Rattle.std.specs.Prelude.{◌≡◌, ◌≤◌, length, slice_index, s
 ghost use Rattle.lexicon.specs.Lexicon.{free, side_of};
 ghost use Rattle.linkage.specs.Ledgers.{most_words};
 ghost use Rattle.linkage.specs.Lists.{every, range};
-ghost use Rattle.linkage.specs.Sentences.{asked, position, size};
-ghost use Rattle.filing.specs.Filings.{allowed, choice_tests, chosen, number_of, tested, there};
-ghost use Rattle.filing.specs.Given.{sentence};
+ghost use Rattle.linkage.specs.Sentences.{size};
+ghost use Rattle.filing.specs.Filings.{allowed, choice_tests, number_of, tested, there};
+ghost use Rattle.filing.specs.Given.{asked_at, choice, position, sentence};
 
 use lexicon::dictionary::Dictionary;
 use lexicon::side::Side;
@@ -33,7 +33,7 @@ impl<'a, D: Dictionary> Choices<'a, D> {
 
     /// The number of the disjunct that is chosen at a position, if one is.
     fn number(&self, at: usize) -> Option<usize>
-        ensures { result ≡ number_of (chosen self.now.bytes.now at) }
+        ensures { result ≡ number_of (choice self.now at) }
     {
         self.bytes
             .get(at)
@@ -43,9 +43,10 @@ impl<'a, D: Dictionary> Choices<'a, D> {
 
     /// The word at a position and the number of the disjunct that is chosen there, if one is.
     fn taken(&self, at: usize) -> Option<(u16, usize)>
-        ensures { MatchOption result
-            (asked (position (sentence D.meaning self.now) at) (chosen self.now.bytes.now at) ≡ free)
-            (λ t. asked (position (sentence D.meaning self.now) at) (chosen self.now.bytes.now at) ≡ slice_index_or ((D.meaning self.now.dictionary.now).disjuncts t.0) t.1 free) }
+        ensures { let lex = D.meaning self.now.dictionary.now in
+            MatchOption result
+            (asked_at D.meaning self.now at ≡ free)
+            (λ t. asked_at D.meaning self.now at ≡ slice_index_or (lex.disjuncts t.0) t.1 free) }
     {
         let disjunct = self.number(at)?;
         let word = self.rows.word(at).ok()?;
@@ -54,7 +55,7 @@ impl<'a, D: Dictionary> Choices<'a, D> {
 
     /// How many connectors are asked for on a side of a position.
     pub(crate) fn list_len(&self, at: usize, side: Side) -> usize
-        ensures { result ≡ length (side_of (asked (position (sentence D.meaning self.now) at) (chosen self.now.bytes.now at)) side) }
+        ensures { result ≡ length (side_of (asked_at D.meaning self.now at) side) }
     {
         match self.taken(at) {
             Some((word, disjunct)) => self.dictionary.list_len(word, disjunct, side),
@@ -64,7 +65,7 @@ impl<'a, D: Dictionary> Choices<'a, D> {
 
     /// The connector at a place of the list that is asked for on a side of a position.
     pub(crate) fn connector(&self, at: usize, side: Side, place: usize) -> u16
-        ensures { result ≡ slice_index (side_of (asked (position (sentence D.meaning self.now) at) (chosen self.now.bytes.now at)) side) place }
+        ensures { result ≡ slice_index (side_of (asked_at D.meaning self.now at) side) place }
     {
         match self.taken(at) {
             Some((word, disjunct)) => self.dictionary.connector(word, disjunct, side, place),
@@ -74,7 +75,7 @@ impl<'a, D: Dictionary> Choices<'a, D> {
 
     /// Whether what is chosen at a position is a disjunct of its word, or bare.
     fn is_there(&self, at: usize) -> bool
-        ensures { result ≡ there (position (sentence D.meaning self.now) at) (chosen self.now.bytes.now at) }
+        ensures { result ≡ there (position D.meaning self.now at) (choice self.now at) }
     {
         let Some(disjunct) = self.number(at) else {
             return true;
@@ -87,7 +88,7 @@ impl<'a, D: Dictionary> Choices<'a, D> {
 
     /// Whether what is chosen at a position is not struck.
     fn is_allowed(&self, at: usize) -> bool
-        ensures { result ≡ allowed (position (sentence D.meaning self.now) at) (chosen self.now.bytes.now at) }
+        ensures { result ≡ allowed (position D.meaning self.now at) (choice self.now at) }
     {
         match self.number(at) {
             Some(disjunct) => !self.rows.is_struck(at, disjunct),
@@ -97,14 +98,14 @@ impl<'a, D: Dictionary> Choices<'a, D> {
 
     /// Whether each choice is a disjunct of its word, or bare.
     fn all_there(&self) -> bool
-        ensures { result ≡ every (λ i. there (position (sentence D.meaning self.now) i) (chosen self.now.bytes.now i)) (range 0 (size (sentence D.meaning self.now))) }
+        ensures { result ≡ every (λ i. there (position D.meaning self.now i) (choice self.now i)) (range 0 (size (sentence D.meaning self.now))) }
     {
         (0..self.words()).all(|at| self.is_there(at))
     }
 
     /// Whether no choice is struck.
     fn all_allowed(&self) -> bool
-        ensures { result ≡ every (λ i. allowed (position (sentence D.meaning self.now) i) (chosen self.now.bytes.now i)) (range 0 (size (sentence D.meaning self.now))) }
+        ensures { result ≡ every (λ i. allowed (position D.meaning self.now i) (choice self.now i)) (range 0 (size (sentence D.meaning self.now))) }
     {
         (0..self.words()).all(|at| self.is_allowed(at))
     }

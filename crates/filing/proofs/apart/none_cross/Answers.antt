@@ -1,17 +1,11 @@
-use Rattle.std.proofs.Common.{not, Bool, rules, tests, ◌∙◌}
-use Rattle.std.proofs.lemmas.Iterator.{YieldsList-from_slice}
-use Rattle.std.proofs.lemmas.Iterator.Search.{all_from_yields_List}
+use Rattle.std.proofs.Common.{not, rules, tests}
 use Rattle.linkage.specs.Linkages.{crosses}
 use Rattle.linkage.specs.Lists.{every}
-use Rattle.linkage.specs.Links.{ends}
-use Rattle.linkage.proofs.Joins.{Wire}
 use Rattle.filing.specs.Filings.{pairs}
-use Rattle.filing.proofs.Chains.{every_pair}
+use Rattle.filing.proofs.Chains.{all_links}
 use Rattle.filing.proofs.apart.none_cross.Goals as goal
 
 pub returns : goal.returns
 returns c =
-    let p : Wire → Bool = λ e. every (λ f. not (crosses e f)) (pairs c.args.links.now) in
-    let ls = c.args.links.now in
-    all_from_yields_List (λ l. p (ends l)) _ _ _ c.all.ensures.ran (YieldsList-from_slice ls c.iter.ensures.rest) (λ x b q k. search (rules, tests))
-    ∙ every_pair p ls
+    all_links (λ e. every (λ f. not (crosses e f)) (pairs c.args.links.now)) c.args.links.now c.iter.result c.iter.ensures.rest _ c.all.result c.all.ensures.ran
+    (λ x b q k. search (rules, tests))

@@ -9,10 +9,10 @@ returns-then-old-new-clause-holds c =
     let right = ap (λ ls. get_or ls e.1 0) c.deref.ensures.0 in
     let left = ap (λ ls. get_or ls e.0 0) c.deref-2.ensures.0 in
     λ es h. holds_merged c.args.self.now e es c.requires.left c.requires.right h
-        (λ q. c.if-old-new.true (right ∙ q ∙ sym left))
-        c.relabel.new.labels c.saturating_sub-self.result
-        (c.relabel.ensures ∙ (λ i. map (λ l. cond (eqb l (right i)) (left i) l) (c.deref_mut.ensures.value i)))
-        c.saturating_sub-self.ensures
+    (λ q. c.if-old-new.true (right ∙ q ∙ sym left))
+    c.relabel.new.labels c.saturating_sub-self.result
+    (c.relabel.ensures ∙ (λ i. map (λ l. cond (eqb l (right i)) (left i) l) (c.deref_mut.ensures.value i)))
+    c.saturating_sub-self.ensures
 
 pub returns-else-old-new-clause-holds : goal.returns-else-old-new-clause-holds
 returns-else-old-new-clause-holds c =

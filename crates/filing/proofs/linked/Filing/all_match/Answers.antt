@@ -1,13 +1,11 @@
 use Rattle.std.proofs.Common.{Bool, rules, tests, sym, ap, ◌∙◌}
 use Rattle.std.proofs.lemmas.Iterator.{YieldsList-from_slice}
 use Rattle.std.proofs.lemmas.Iterator.Adapters.{serves_from_places}
-use Rattle.std.proofs.lemmas.Iterator.Search.{all_from_yields_List}
 use Rattle.linkage.specs.Linkages.{matched}
-use Rattle.linkage.specs.Links.{ends}
 use Rattle.linkage.specs.Lists.{every}
 use Rattle.linkage.proofs.Joins.{Wire}
 use Rattle.filing.specs.Given.{linkage, sentence}
-use Rattle.filing.proofs.Chains.{at_in, every_pair}
+use Rattle.filing.proofs.Chains.{all_links, at_in}
 use Rattle.filing.proofs.Filed.{links_again}
 use Rattle.filing.proofs.linked.Filing.all_match.Goals as goal
 
@@ -21,6 +19,5 @@ returns g c =
     let m = g.D.Dictionary.meaning in
     let f = c.args.self.now in
     let p : Wire → Bool = matched (sentence m f.choices) (linkage m f) in
-    let ls = f.links.now in
-    all_from_yields_List (λ l. p (ends l)) _ _ _ c.all.ensures.ran (YieldsList-from_slice ls c.iter.ensures.rest) (λ x b q k. search (rules, tests))
-    ∙ every_pair p ls ∙ sym (ap (every p) (links_again m f))
+    all_links p f.links.now c.iter.result c.iter.ensures.rest _ c.all.result c.all.ensures.ran (λ x b q k. search (rules, tests))
+    ∙ sym (ap (every p) (links_again m f))
