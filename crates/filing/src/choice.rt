@@ -57,43 +57,37 @@ impl<'a, D: Dictionary> Choices<'a, D> {
     pub(crate) fn list_len(&self, at: usize, side: Side) -> usize
         ensures { result ≡ length (side_of (asked_at D.meaning self.now at) side) }
     {
-        match self.taken(at) {
-            Some((word, disjunct)) => self.dictionary.list_len(word, disjunct, side),
-            None => 0,
-        }
+        self.taken(at).map_or(0, |(word, disjunct)| {
+            self.dictionary.list_len(word, disjunct, side)
+        })
     }
 
     /// The connector at a place of the list that is asked for on a side of a position.
     pub(crate) fn connector(&self, at: usize, side: Side, place: usize) -> u16
         ensures { result ≡ slice_index (side_of (asked_at D.meaning self.now at) side) place }
     {
-        match self.taken(at) {
-            Some((word, disjunct)) => self.dictionary.connector(word, disjunct, side, place),
-            None => 0,
-        }
+        self.taken(at).map_or(0, |(word, disjunct)| {
+            self.dictionary.connector(word, disjunct, side, place)
+        })
     }
 
     /// Whether what is chosen at a position is a disjunct of its word, or bare.
     fn is_there(&self, at: usize) -> bool
         ensures { result ≡ there (position D.meaning self.now at) (choice self.now at) }
     {
-        let Some(disjunct) = self.number(at) else {
-            return true;
-        };
-        match self.rows.word(at) {
-            Ok(word) => disjunct < self.dictionary.disjuncts(word),
-            Err(_) => false,
-        }
+        self.number(at).is_none_or(|disjunct| {
+            self.rows
+                .word(at)
+                .is_ok_and(|word| disjunct < self.dictionary.disjuncts(word))
+        })
     }
 
     /// Whether what is chosen at a position is not struck.
     fn is_allowed(&self, at: usize) -> bool
         ensures { result ≡ allowed (position D.meaning self.now at) (choice self.now at) }
     {
-        match self.number(at) {
-            Some(disjunct) => !self.rows.is_struck(at, disjunct),
-            None => true,
-        }
+        self.number(at)
+            .is_none_or(|disjunct| !self.rows.is_struck(at, disjunct))
     }
 
     /// Whether each choice is a disjunct of its word, or bare.

@@ -14,7 +14,7 @@ const MOST: usize = 40;
 #[derive(Drop)]
 pub(crate) struct Joins {
     labels: ArrayVec<usize, MOST>,
-    parts: usize,
+    pub(crate) parts: usize,
 }
 
 /// Puts one label in the place of another.
@@ -58,12 +58,5 @@ impl Joins {
             relabel(&mut self.labels, old, new);
             self.parts = self.parts.saturating_sub(1);
         }
-    }
-
-    /// How many parts there are.
-    pub(crate) fn parts(&self) -> usize
-        ensures { result ≡ self.now.parts }
-    {
-        self.parts
     }
 }

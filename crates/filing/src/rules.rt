@@ -92,6 +92,6 @@ impl<'a, D: Dictionary> Filing<'a, D> {
         for link in self.links {
             joins.join(link);
         }
-        joins.parts()
+        joins.parts
     }
 }

@@ -1,4 +1,4 @@
-//! The words of a sentence under work, in plain tables that hold no dictionary.
+//! The words of a sentence under work, in a plain list that holds no dictionary.
 //!
 //! - `edit`: the calls that change them, each lent the dictionary where it is needed.
 //! - `read`: what is asked of them.

@@ -40,7 +40,7 @@ returns g c =
     let f = c.args.self.now in
     let ls = f.links.now in
     let i = c.loop-link.link-index in
-    c.parts.ensures ∙ c.loop-link.invariant.1.parts
+    c.loop-link.invariant.1.parts
     ∙ ap (λ n. length (heads (pairs (take i ls)) n)) c.loop-link.invariant.0
     ∙ ap (λ es. length (heads es (size (sentence m f.choices)))) (pairs_all ls i c.loop-link-test.false)
     ∙ sym (parts_are m f)
