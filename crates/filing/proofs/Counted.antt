@@ -12,7 +12,7 @@ use Rattle.linkage.proofs.Rows.{Rows, outs, outs_span, rising_in}
 use Rattle.linkage.proofs.Tested.{into_before}
 use Rattle.linkage.proofs.Weights.{of_links}
 use Rattle.filing.specs.Filings.{row_of}
-use Rattle.filing.proofs.Refiled.{filter_none, links_late}
+use Rattle.filing.proofs.Refiled.{and_yes, filter_none, links_late}
 
 -- The links from a position and to one, and of these the nearer ones.
 abbrev pub from : ℕ → Wire → Bool
@@ -141,10 +141,6 @@ module _ (s : Sentence) (n j : ℕ) where
           ∙ ap length (filter_cong (to j) (nearer_to k j) rest (λ e u.
           let b = links_late (suc i) ps e u in sym (and_yes (eqb e.1 j) (ltb k e.0) (lt-ltb k e.0 (omega arith)))))
           ∙ sym (only_rest (omega arith))
-        where
-          and_yes : (a b : Bool) → b ≡ true → (a && b) ≡ a
-          and_yes true b e = e
-          and_yes false b e = refl
       go (inr h) f =
           let late = links_late (suc i) ps (k, j) h in
           let lk = of_links (suc i) ps (k, j) h in

@@ -60,6 +60,11 @@ earlier_trans e f g p q = elim (earlier_parts e f p) [
   ]
 ]
 
+-- A test behind which another passes.
+pub and_yes : (a b : Bool) → b ≡ true → (a && b) ≡ a
+and_yes true b e = e
+and_yes false b e = refl
+
 -- A filter that keeps all, and one that keeps none.
 pub filter_all : {A : Type 0} (p : A → Bool) (xs : List A) → ((x : A) → x ∈ xs → p x ≡ true) → filter p xs ≡ xs
 filter_all p [] h = refl

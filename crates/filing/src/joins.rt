@@ -1,19 +1,18 @@
 ghost use Rattle.std.specs.Prelude.{◌≡◌, ℕ, ◌<◌, ◌≤◌, List, [], ◌∷◌, ◌++◌, length, map, if◌then◌else◌, ◌==◌};
 ghost use Rattle.arrayvec.specs.ArrayVec.{array_vec_len};
+ghost use Rattle.linkage.specs.Ledgers.{most_words};
 ghost use Rattle.linkage.specs.Links.{ends};
 ghost use Rattle.linkage.specs.Parts.{heads};
 ghost use Rattle.filing.specs.Joinings.{Holds};
 
 use arrayvec::ArrayVec;
 use linkage::link::Link;
-
-/// The most positions that a sentence has.
-const MOST: usize = 40;
+use rows::MOST_WORDS;
 
 /// Positions held together by links: two have the same label where links join them.
 #[derive(Drop)]
 pub(crate) struct Joins {
-    labels: ArrayVec<usize, MOST>,
+    labels: ArrayVec<usize, MOST_WORDS>,
     pub(crate) parts: usize,
 }
 
@@ -31,7 +30,7 @@ fn relabel(labels: &mut [usize], old: usize, new: usize)
 impl Joins {
     /// No links: each position is a part, with a label of its own.
     pub(crate) fn apart(count: usize) -> Joins
-        requires { count ≤ 40 }
+        requires { count ≤ most_words }
         ensures holds { Holds [] result }
         ensures count { array_vec_len result.labels ≡ count }
     {
@@ -56,6 +55,7 @@ impl Joins {
         let new = self.labels[link.left];
         if old != new {
             relabel(&mut self.labels, old, new);
+            // Labels that differ are those of two parts at least.
             self.parts = self.parts.saturating_sub(1);
         }
     }

@@ -1,6 +1,6 @@
 //! The words of a sentence under work, in a plain list that holds no dictionary.
 //!
-//! - `edit`: the calls that change them, each lent the dictionary where it is needed.
+//! - `edit`: the calls that change them. The rows are to hold no dictionary, so where one is needed it is lent beside them.
 //! - `read`: what is asked of them.
 //! - `sets`: sets of disjuncts.
 
@@ -14,7 +14,7 @@ pub mod read;
 mod sets;
 
 /// The most words that a folio holds.
-const MOST: usize = 40;
+pub const MOST_WORDS: usize = 40;
 
 /// A position of a sentence under work: its word, and which of the word's disjuncts are struck and which are marked.
 #[derive(Clone, Copy, Default, PartialEq, Eq, Debug)]
@@ -27,5 +27,5 @@ struct Entry {
 /// The words of a sentence under work, each with the disjuncts that are struck and that are marked.
 #[derive(Drop)]
 pub struct Rows {
-    entries: ArrayVec<Entry, MOST>,
+    entries: ArrayVec<Entry, MOST_WORDS>,
 }
