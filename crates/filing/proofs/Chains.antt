@@ -6,22 +6,24 @@ use Rattle.std.proofs.lemmas.List.{map_more, take_all}
 use denote.Param.Members.{Mut}
 use denote.Ref.{Bor}
 use Rattle.std.specs.declared.iter.Filter.{Filter}
+use Rattle.std.specs.declared.ops.Range.{Range}
 use Rattle.std.specs.declared.slice.Iter.{Iter}
 use Rattle.std.specs.Fn.{Called, CalledAt}
 use Rattle.std.specs.Iterator.{Drains, YieldsThen}
 use Rattle.std.specs.Iterator.Adapters.{filter_callee, filter_source, filter_steps}
 use Rattle.std.specs.Option.{MatchOption}
 use Rattle.std.specs.Slice.Iter.{iter_rest}
-use Rattle.std.proofs.iter.Yields.{fronts}
-use Rattle.std.proofs.lemmas.Iterator.{YieldsList-from_slice}
+use Rattle.std.proofs.iter.Yields.{fronts, nat_range_steps}
+use Rattle.std.proofs.lemmas.Iterator.{YieldsList-from_range, YieldsList-from_slice}
 use Rattle.std.proofs.lemmas.Iterator.Consumers.{YieldsList-at, YieldsList-from_filter, count_from_yields_List}
 use Rattle.std.proofs.lemmas.Iterator.Search.{all_from_yields_List}
 use Rattle.linkage.specs.Lists as linked
-use Rattle.linkage.specs.Lists.{◌∈◌, here, there, every}
+use Rattle.linkage.specs.Lists.{◌∈◌, here, there, every, range}
 use Rattle.linkage.specs.Links.{earlier, ends}
 use Rattle.linkage.specs.declared.link.Link.{Link}
 use Rattle.linkage.proofs.Joins.{Wire}
 use Rattle.linkage.proofs.Members.{in_cases}
+use Rattle.rows.proofs.Lists.{range_same}
 use Rattle.filing.specs.Filings.{ordered, pairs}
 use Rattle.filing.proofs.Counted.{count_of}
 use Rattle.filing.proofs.Refiled.{earlier_trans, ordered_cons, ordered_parts}
@@ -38,6 +40,11 @@ module _ (p : Wire → Bool) where
       one_more : (b : Bool) (ks : List Link) (es : List Wire) → length ks ≡ length es → length (cond b (l ∷ ks) ks) ≡ length (cond b (ends l ∷ es) es)
       one_more true ks es h = ap suc h
       one_more false ks es h = h
+
+-- A test of each number below n.
+every_all : (p : ℕ → Bool) (ks : List ℕ) → every p ks ≡ list_all p ks
+every_all p [] = refl
+every_all p (k ∷ ks) = ap (λ b. p k && b) (every_all p ks)
 
 -- The links from a place on.
 pub at_in : (ls : List Link) (i : ℕ) (l : Link) → i < length ls → l ≡ get_or ls i l → ends l ∈ pairs ls
@@ -105,3 +112,12 @@ module _ (p : Wire → Bool) (ls : List Link) {F : Type 0} {f : F} (it : Iter Li
       count_from_yields_List s r ran
       (YieldsList-from_filter g (λ l. p (ends l)) (YieldsList-at source (YieldsList-from_slice ls rest)) callee computes)
       ∙ counted_pairs p ls
+
+-- The same over the numbers below n.
+pub all_below : (p : ℕ → Bool) (n : ℕ) {F : Type 0} {f : F} {g : Mut F (ℕ × Unit {0}) Bool} (it u : Range ℕ) → it ≡ record { start = 0; end = n } → (r : Bool)
+    → (xs : List ℕ) × (o : Option ℕ) × (j : F) × YieldsThen nat_range_steps it xs o u × FoldsTo (λ q x k. Called g q (x, tt) true k) f xs j
+    × MatchOption o (r ≡ true) (λ x. (r ≡ false) × ((h : F) × Called g j (x, tt) false h))
+    → ((x : ℕ) (b : Bool) (q : F) → Called g f (x, tt) b q → (q ≡ f) × (b ≡ p x)) → r ≡ every p (range 0 n)
+all_below p n {f = f} it u from r ran computes =
+    all_from_yields_List p u f r ran (YieldsList-from_range 0 n n from (omega arith)) computes
+    ∙ ap (list_all p) (sym (range_same 0 n)) ∙ sym (every_all p (range 0 n))
