@@ -17,7 +17,6 @@ use Rattle.std.proofs.iter.Yields.{fronts, nat_range_steps}
 use Rattle.std.proofs.lemmas.Iterator.{YieldsList-from_range, YieldsList-from_slice}
 use Rattle.std.proofs.lemmas.Iterator.Consumers.{YieldsList-at, YieldsList-from_filter, count_from_yields_List}
 use Rattle.std.proofs.lemmas.Iterator.Search.{all_from_yields_List}
-use Rattle.linkage.specs.Lists as linked
 use Rattle.linkage.specs.Lists.{◌∈◌, here, there, every, range}
 use Rattle.linkage.specs.Links.{earlier, ends}
 use Rattle.linkage.specs.declared.link.Link.{Link}
@@ -33,9 +32,9 @@ module _ (p : Wire → Bool) where
   every_pair [] = refl
   every_pair (l ∷ ls) = ap (λ b. p (ends l) && b) (every_pair ls)
 
-  pub counted_pairs : (ls : List Link) → length (filter (λ l. p (ends l)) ls) ≡ length (linked.filter p (pairs ls))
+  pub counted_pairs : (ls : List Link) → length (filter (λ l. p (ends l)) ls) ≡ length (filter p (pairs ls))
   counted_pairs [] = refl
-  counted_pairs (l ∷ ls) = one_more (p (ends l)) (filter (λ k. p (ends k)) ls) (linked.filter p (pairs ls)) (counted_pairs ls)
+  counted_pairs (l ∷ ls) = one_more (p (ends l)) (filter (λ k. p (ends k)) ls) (filter p (pairs ls)) (counted_pairs ls)
     where
       one_more : (b : Bool) (ks : List Link) (es : List Wire) → length ks ≡ length es → length (cond b (l ∷ ks) ks) ≡ length (cond b (ends l ∷ es) es)
       one_more true ks es h = ap suc h

@@ -1,3 +1,2 @@
 mod Counted
-mod Listed
-mod Marked
+mod Told

@@ -1,7 +1,7 @@
 ghost use Rattle.std.specs.Prelude.{◌≡◌, [], length, slice_index_or};
 ghost use Rattle.written.specs.Lines.{formula_part, lines};
 
-use written::text::unended;
+use written::line::unended;
 
 /// How many lines a text has.
 pub(crate) fn line_count(text: &[u8]) -> usize

@@ -48,7 +48,8 @@ pub fn split<'a>(line: &'a [u8]) -> Result<Parts<'a>, Refusal>
 
 /// A text without the line feed that ends its last line: cut at its line feeds, it gives the lines.
 pub fn unended(text: &[u8]) -> &[u8]
-    ensures { 0 < length text.now → pieces 10 result.now ≡ lines text.now }
+    ensures cut { 0 < length text.now → pieces 10 result.now ≡ lines text.now }
+    ensures empty { text.now ≡ [] → result.now ≡ [] }
 {
     text.strip_suffix(b"\n").unwrap_or(text)
 }

@@ -1,21 +1,19 @@
-use Rattle.std.proofs.Common.{◌≡◌, suc, ◌+◌, drop, sym, ap, ◌∙◌, add-one, arith}
+use Rattle.std.proofs.Common.{◌≡◌, suc, ◌+◌, eqb, length, drop, sym, ap, ◌∙◌, add-one, arith, rules}
 use Rattle.std.proofs.lemmas.List.{drop_all, take_rest}
+use Rattle.std.proofs.lemmas.List.Sums.{position_or_len_is}
 use Rattle.written.specs.Lines.{tab_place}
-use Rattle.written.proofs.Words.{mark_place}
 use Rattle.lexicon_report.proofs.lines.formula_of.Goals as goal
 
-pub returns-then-tab-line : goal.returns-then-tab-line
-returns-then-tab-line c =
+pub returns-in-Some : goal.returns-in-Some
+returns-in-Some c =
     let xs = c.args.line.now in
-    let e = c.piece_end-tab.result in
-    let p = c.piece_end-tab.ensures in
-    let q : tab_place xs ≡ e = mark_place 9 xs e p.within.1 p.clear p.stops in
-    sym (drop_all (suc (tab_place xs)) xs (omega arith))
+    let n = c.in-Some.tab in
+    let e : tab_place xs ≡ n = position_or_len_is (λ b. eqb b 9) xs n 0 (search rules) (λ k l. search rules) (λ l. search rules) in
+    take_rest xs (n + 1) ∙ ap (λ k. drop k xs) (add-one n ∙ ap suc (sym e))
 
-pub returns : goal.returns
-returns c =
+pub returns-in-None : goal.returns-in-None
+returns-in-None c =
     let xs = c.args.line.now in
-    let e = c.piece_end-tab.result in
-    let p = c.piece_end-tab.ensures in
-    let q : tab_place xs ≡ e = mark_place 9 xs e p.within.1 p.clear p.stops in
-    take_rest xs (e + 1) ∙ ap (λ n. drop n xs) (add-one e ∙ ap suc (sym q))
+    let e : tab_place xs ≡ length xs =
+    position_or_len_is (λ b. eqb b 9) xs (length xs) 0 (omega arith) (λ k l. search rules) (λ l. absurd (omega arith)) in
+    sym (drop_all (suc (tab_place xs)) xs (omega arith))

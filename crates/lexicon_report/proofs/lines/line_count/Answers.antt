@@ -1,18 +1,15 @@
-use Rattle.std.proofs.Common.{length, ap, arith}
-use Rattle.written.proofs.Cuts.{lines_none, lines_step}
+use Rattle.std.proofs.Common.{length, sym, ap, ◌∙◌, rules, tests}
+use Rattle.std.proofs.lemmas.Bool.{eqb-true}
+use Rattle.std.proofs.lemmas.Iterator.Consumers.{count_from_yields_List}
+use Rattle.written.proofs.Splits.{yields_pieces}
+use Rattle.lexicon_report.proofs.Told.{no_line}
 use Rattle.lexicon_report.proofs.lines.line_count.Goals as goal
 
-pub loop-from-preserved : goal.loop-from-preserved
-loop-from-preserved c =
-    let p = c.piece_end-from.ensures in
-    let e = ap length
-    (lines_step c.args.text.now c.loop-from.from c.piece_end-from.result c.loop-from-test.true p.within.0 p.within.1
-    p.clear p.stops)
-    in let (few, sum) = c.loop-from.invariant in
-    (omega arith, omega arith)
+pub returns-then-is_empty : goal.returns-then-is_empty
+returns-then-is_empty c = sym (no_line c.args.text.now (eqb-true (length c.args.text.now) 0 (sym c.if-is_empty.ensures)))
 
 pub returns : goal.returns
 returns c =
-    let e = ap length (lines_none c.args.text.now c.loop-from.from c.loop-from-test.false) in
-    let sum = c.loop-from.invariant.1 in
-    omega arith
+    let e = c.split.ensures in
+    count_from_yields_List c.split.result _ c.count.ensures.ran (yields_pieces _ 10 c.unended.result.now e.rest e.done e.closure (λ x b q k. search (rules, tests)))
+    ∙ ap length (c.unended.ensures.cut (search rules))

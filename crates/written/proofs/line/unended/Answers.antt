@@ -30,7 +30,18 @@ by_end xs d (Some x) h q (e, t, n) =
     ap (pieces 10) t ∙ sym (lines_ended (take (length xs - 1) xs))
     ∙ ap lines (ap (◌++◌ (take (length xs - 1) xs)) (ap (λ b. b ∷ []) (sym m) ∙ sym (last_byte xs h)) ∙ take-append-drop (length xs - 1) xs)
 
-pub returns : goal.returns
-returns c some =
+still_empty : (xs : List ℕ) (d : Bor (List ℕ)) (r : Option (Bor (List ℕ))) → xs ≡ [] → d.now ≡ xs →
+    MatchOption r (pointwise eqb (drop (length xs - 1) xs) (10 ∷ []) ≡ false)
+    (λ x. (pointwise eqb (drop (length xs - 1) xs) (10 ∷ []) ≡ true) × (x.now ≡ take (length xs - 1) xs) × (length x.now + 1 ≡ length xs)) →
+    (unwrap_or r d).now ≡ []
+still_empty xs d None n q e = q ∙ n
+still_empty xs d (Some x) n q (e, t, l) = let k = ap length n in absurd (omega arith)
+
+pub returns-clause-cut : goal.returns-clause-cut
+returns-clause-cut c some =
     let xs = c.args.text.now in
     ap (λ z. pieces 10 z.now) c.unwrap_or.ensures ∙ by_end xs c.args.text c.strip_suffix.result some refl c.strip_suffix.ensures.cases
+
+pub returns-clause-empty : goal.returns-clause-empty
+returns-clause-empty c none =
+    ap (λ z. z.now) c.unwrap_or.ensures ∙ still_empty c.args.text.now c.args.text c.strip_suffix.result none refl c.strip_suffix.ensures.cases
