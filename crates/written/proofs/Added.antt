@@ -124,9 +124,6 @@ module _ (g : Name → ℕ) (ns : List (Bor (List ℕ))) (i : ℕ) where
   pub list_next : (d : Bor (List ℕ)) → i < length ns → map g (drop i (lent ns)) ≡ g (get_or ns i d).now ∷ map g (drop (i + 1) (lent ns))
   list_next d h = ap (map g) (next_made (λ m. m.now) ns i d h)
 
-  pub list_last : length ns ≤ i → map g (drop i (lent ns)) ≡ []
-  list_last h = ap (map g) (none_made (λ m. m.now) ns i h)
-
 pub length_list : (g : Name → ℕ) (ns : List (Bor (List ℕ))) → length (map g (lent ns)) ≡ length ns
 length_list g ns = length-map (lent ns) g ∙ length-map ns (λ n. n.now)
 

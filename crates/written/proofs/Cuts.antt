@@ -1,26 +1,8 @@
--- The first piece from a place of some bytes on, and those behind it.
---
--- A loop over all pieces goes by the place where the next one begins:
---
---     let mut from = 0;
---     while from <= bytes.len() {
---         let end = piece_end(bytes, from, mark);
---         .. &bytes[from..end] ..
---         from = end + 1;
---     }
---
--- Its invariant says what is left to do with `pieces_from mark bytes from`. At the start that is all pieces (`pieces_first`);
--- a turn takes the first of them off, as `piece_end` ensures by its clause `cuts`; and after the loop there is none left
--- (`pieces_none`). For a result `F` of the pieces the invariant is `F (pieces_from mark bytes from) ≡ F (pieces mark bytes)`,
--- or the same with what was gathered so far; `ap F` of the three facts then steps it.
---
--- A loop over the lines of a text is the same with the mark 10, `while from < text.len()` and `lines (drop from text)`:
--- a turn goes by `lines_step`, which takes the first three clauses of `piece_end`, and the end by `lines_none`. Where a
--- loop counts, so that what is left is `drop k` of all, `one_more` and `none_more` tell of those done, which are `take k`.
-use Rattle.std.proofs.Common.{◌≡◌, ℕ, suc, ◌+◌, ◌-◌, ◌<◌, ◌≤◌, cond, eqb, leb, List, [], ◌∷◌, ◌++◌, length, get_or, take, drop, sym, refl, ap, ◌∙◌, ⊎_elim, append-nil, arith, length-drop, take-append-drop, drop-drop}
+-- The first piece from a place of some bytes on, and those behind it; and the same of the lines of a text.
+use Rattle.std.proofs.Common.{◌≡◌, ℕ, suc, ◌+◌, ◌-◌, ◌<◌, ◌≤◌, cond, eqb, leb, List, [], ◌∷◌, ◌++◌, length, get_or, drop, sym, refl, ap, ◌∙◌, ⊎_elim, arith, take-append-drop, drop-drop}
 use Rattle.std.specs.List.{between}
 use Rattle.std.proofs.lemmas.List.Edits.{get_or-between, length-between}
-use Rattle.std.proofs.lemmas.List.{drop_more, drop_all, take_more}
+use Rattle.std.proofs.lemmas.List.{drop_more, drop_all}
 use Rattle.std.proofs.lemmas.Slice.{between_to_end}
 use Rattle.std.proofs.lemmas.Bool.{eq-eqb, ne_eqb, le-leb, lt-leb, cond-true, cond-false, cases_lt}
 use Rattle.written.specs.Lines.{onto, pieces, pieces_from, lines}
@@ -79,10 +61,6 @@ module _ (m : ℕ) (F : List ℕ → List (List ℕ))
         let n = length-between xs a e l in
         let some : 0 < length (between a e xs) = omega arith in
         ap F (sym (between_to_end xs a e l')) ∙ last_some (between a e xs) some (clear_between m xs a e l c)
-
-pub pieces_first : (m : ℕ) (xs : List ℕ) → pieces_from m xs 0 ≡ pieces m xs
-unfolding pieces_from
-pieces_first m xs = cond-true (leb 0 (length xs)) (pieces m xs) [] (le-leb 0 (length xs) (omega arith))
 
 pub pieces_none : (m : ℕ) (xs : List ℕ) (a : ℕ) → length xs < a → pieces_from m xs a ≡ []
 unfolding pieces_from
@@ -144,20 +122,3 @@ module _ (xs : List ℕ) (a e : ℕ) (some : a < length xs) (from : a ≤ e) (to
 pub lines_none : (xs : List ℕ) (a : ℕ) → length xs ≤ a → lines (drop a xs) ≡ []
 unfolding lines
 lines_none xs a h = ap lines (drop_all a xs h)
-
--- Of a list of which some were done: one more, and all.
-module _ (ps : List (List ℕ)) (k : ℕ) where
-  pub one_more : (p : List ℕ) (rest : List (List ℕ)) → drop k ps ≡ p ∷ rest →
-      (k < length ps) × (take (k + 1) ps ≡ take k ps ++ (p ∷ [])) × (drop (k + 1) ps ≡ rest)
-  one_more p rest e =
-      let n = ap length e in
-      let m = length-drop k ps in
-      let h : k < length ps = omega arith in
-      let d : drop k ps ≡ get_or ps k [] ∷ drop (k + 1) ps = drop_more ps k [] h in
-      let first : get_or ps k [] ≡ p = cc in
-      let others : drop (k + 1) ps ≡ rest = cc in
-      (h, take_more ps k [] h ∙ ap (λ (q : List ℕ). take k ps ++ (q ∷ [])) first, others)
-
-  pub none_more : drop k ps ≡ [] → take k ps ≡ ps
-  none_more e =
-      sym (append-nil (take k ps)) ∙ (ap (◌++◌ (take k ps)) (sym e) ∙ take-append-drop k ps)

@@ -5,7 +5,6 @@ pub mod Blocks
 pub mod Costs
 pub mod Cuts
 pub mod Entered
-pub mod Finds
 pub mod Found
 pub mod Fronts
 pub mod Grown

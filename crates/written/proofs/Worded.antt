@@ -21,22 +21,6 @@ pub record Worded (p q : Page) (b : ℕ) (left all : List (List ℕ)) : Type 0 w
   pub all_rows : rows ++ word_rows q.used b left ≡ word_rows p.used b all
 
 module _ (p : Page) (b : ℕ) (all : List (List ℕ)) where
-  pub worded_start : (left : List (List ℕ)) → left ≡ all → Worded p p b left all
-  worded_start left e =
-      let s = page_store p in
-      let front = sym (append-nil s.front) in
-      let rows = sym (append-nil s.rows) in
-      record {
-        cells = [];
-        rows = [];
-        store = λ i. record { front = front i; rows = rows i };
-        len = refl;
-        used = omega arith;
-        words = omega arith;
-        all_cells = ap word_cells e;
-        all_rows = ap (word_rows p.used b) e;
-      }
-
   module _ (q : Page) (left rest : List (List ℕ)) (w : List ℕ) (a : Worded p q b left all) (e : left ≡ w ∷ rest) where
     cells_left : a.cells ++ (w ++ word_cells rest) ≡ word_cells all
     unfolding word_cells
