@@ -6,7 +6,7 @@ use Rattle.formula.specs.Tokens.{Name}
 use Rattle.written.specs.declared.page.Page.{Page}
 use Rattle.written.specs.Costs.{each_takes}
 use Rattle.written.specs.Model.{fresh, mentioned}
-use Rattle.written.specs.Pages.{page_store, with_cells}
+use Rattle.written.specs.Pages.{page_store}
 use Rattle.written.specs.Store.{Store, all_name_cells, numbered, block_cells, word_cells, word_rows, with_line, names_of as store_names}
 
 -- Each name takes two cells and one for each byte, and each word a row and one for each byte.
@@ -23,6 +23,10 @@ words_take (w ∷ ws) = let r = words_take ws in simp length-append (omega arith
 pub length_front : (p : Page) → p.used ≤ length p.table.now → length (page_store p).front ≡ p.used
 unfolding page_store
 length_front p h = length-take-le p.used p.table.now h
+
+-- A store with cells more.
+abbrev pub with_cells : Store → List ℕ → Store
+with_cells s xs = record { front = s.front ++ xs; rows = s.rows }
 
 -- A line by its three parts.
 module _ (ws : List (List ℕ)) (ds : List (Disjunct Name)) where

@@ -1,5 +1,5 @@
-ghost use Rattle.std.specs.Prelude.{◌≡◌, ◌+◌, ◌<◌, ◌≤◌, [], ◌∷◌, length};
-ghost use Rattle.written.specs.Pages.{Appended, limit, page_store, taken, with_row};
+ghost use Rattle.std.specs.Prelude.{◌+◌, ◌<◌, ◌≤◌, [], ◌∷◌, length};
+ghost use Rattle.written.specs.Pages.{Appended, Extended, limit, taken};
 ghost use Rattle.written.specs.Store.{name_cells};
 
 use crate::front::MARK;
@@ -22,10 +22,7 @@ impl<'t> Page<'t> {
     /// Writes the row of a word before those of the words before it.
     pub(crate) fn push_row(&mut self, word: u16, len: u16, block: u16)
         requires { taken self.old.used self.old.words + 4 ≤ limit self.old.table.now }
-        ensures store { page_store self.new ≡ with_row (page_store self.old) (record { word = word; length_of = len; block = block }) }
-        ensures len { length self.new.table.now ≡ length self.old.table.now }
-        ensures used { self.new.used ≡ self.old.used }
-        ensures words { self.new.words ≡ self.old.words + 1 }
+        ensures { Extended self.old self.new [] (record { word = word; length_of = len; block = block } ∷ []) }
     {
         let words = self.words;
         let at = self.table.len().min(LIMIT) - 4 * (words + 1);
