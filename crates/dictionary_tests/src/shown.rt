@@ -1,17 +1,14 @@
-use formula::fault::FormulaFault;
 use formula::meaning::meaning;
-use formula::name::name_at;
-use formula::names::Names;
-use refusal::Refusal;
+use formula::way::Names;
+use refusal::fault::LineFault;
 use std::alloc::{AllocError, Global};
-use written::fault::LineFault;
 
-fn list(out: &mut String, formula: &[u8], names: &Names) -> Result<(), AllocError> {
-    for i in 0..names.len {
+fn list(out: &mut String, names: &Names<'_>) -> Result<(), AllocError> {
+    for (i, name) in names.iter().enumerate() {
         if i > 0 {
             out.push(' ')?;
         }
-        for b in name_at(formula, names.places[i]) {
+        for b in *name {
             out.push(char::from(*b))?;
         }
     }
@@ -22,21 +19,20 @@ fn list(out: &mut String, formula: &[u8], names: &Names) -> Result<(), AllocErro
 pub(crate) fn formula(heap: Global, formula: &[u8]) -> Result<String, AllocError> {
     let kept = match meaning(formula) {
         Ok(kept) => kept,
-        Err(e) => return refusal(heap, e.refusal, e.place),
+        Err(fault) => return refusal(heap, fault),
     };
     let mut out = String::new(heap);
-    for k in 0..kept.len {
-        let one = kept.items[k];
-        list(&mut out, formula, &one.left)?;
+    for disjunct in &kept {
+        list(&mut out, &disjunct.left)?;
         out.push('|')?;
-        list(&mut out, formula, &one.right)?;
+        list(&mut out, &disjunct.right)?;
         out.push(';')?;
     }
     Ok(out)
 }
 
-pub(crate) fn refusal(heap: Global, refusal: Refusal, place: usize) -> Result<String, AllocError> {
-    let number = refusal.number();
+fn refusal(heap: Global, fault: LineFault) -> Result<String, AllocError> {
+    let (number, place) = (fault.refusal.number(), fault.place);
     format!(in heap; "{number} at {place}")
 }
 
@@ -44,6 +40,6 @@ pub(crate) fn refusal(heap: Global, refusal: Refusal, place: usize) -> Result<St
 pub(crate) fn line(heap: Global, answer: Result<(), LineFault>) -> Result<String, AllocError> {
     match answer {
         Ok(()) => String::from_str(heap, "ok"),
-        Err(e) => refusal(heap, e.refusal, e.place),
+        Err(fault) => refusal(heap, fault),
     }
 }

@@ -2,10 +2,11 @@ ghost use Rattle.std.specs.Prelude.{◌≡◌};
 ghost use Rattle.refusal.specs.Faults.{of_line};
 
 use crate::Refusal;
-use std::fmt;
+use thiserror::Error;
 
 /// A refusal of a line, and the place in the line's formula, from 0; 0 where it is not of the formula.
-#[derive(Clone, Copy, PartialEq, Eq, Debug)]
+#[derive(Clone, Copy, PartialEq, Eq, Debug, Error)]
+#[error("place {place}: refused with {}: {refusal}", .refusal.number())]
 pub struct LineFault {
     pub place: usize,
     pub refusal: Refusal,
@@ -20,24 +21,10 @@ impl From<Refusal> for LineFault {
 }
 
 /// A refusal with where it came: the line of the input, from 1, and the place in the line's formula, from 0.
-#[derive(Clone, Copy, PartialEq, Eq, Debug)]
+#[derive(Clone, Copy, PartialEq, Eq, Debug, Error)]
+#[error("line {line}, place {place}: refused with {}: {refusal}", .refusal.number())]
 pub struct Fault {
     pub line: usize,
     pub place: usize,
     pub refusal: Refusal,
-}
-
-impl fmt::Display for Fault {
-    fn fmt<W: fmt::Write>(&self, f: &mut fmt::Formatter<W>) -> fmt::Result {
-        let Fault {
-            line,
-            place,
-            refusal,
-        } = *self;
-        let number = refusal.number();
-        write!(
-            f,
-            "line {line}, place {place}: refused with {number}: {refusal}"
-        )
-    }
 }

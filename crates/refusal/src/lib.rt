@@ -7,43 +7,69 @@
 ghost use Rattle.std.specs.Prelude.{◌≡◌};
 ghost use Rattle.refusal.specs.Refusals.{number_of};
 
-use std::fmt;
+use thiserror::Error;
 
 pub mod fault;
 
-/// What was wrong, by whose hand it came.
-#[derive(Clone, Copy, PartialEq, Eq, Debug)]
+/// What was wrong, by whose hand it came, with the number by which it is cited.
+#[derive(Clone, Copy, PartialEq, Eq, Debug, Error)]
 pub enum Refusal {
     // who writes a dictionary
-    LineForm,
-    UnknownMark,
-    OutOfPlace,
-    TooDeep,
-    BadName,
-    ManyWays,
-    LongList,
-    WordTaken,
-    TableShort,
-    ChainSize,
+    #[error("the line is not words, one tab and a formula")]
+    LineForm = 11,
+    #[error("no token begins with this mark")]
+    UnknownMark = 12,
+    #[error("the formula allows no such token here")]
+    OutOfPlace = 13,
+    #[error("brackets are open 16 deep already")]
+    TooDeep = 14,
+    #[error("the connector's name has no sign or more than 8 bytes")]
+    BadName = 15,
+    #[error("the formula has more than 64 ways")]
+    ManyWays = 16,
+    #[error("a disjunct has more than 8 connectors on one side")]
+    LongList = 17,
+    #[error("a word of the line is defined already or stands twice")]
+    WordTaken = 18,
+    #[error("the table is too short or would hold more than 256 words")]
+    TableShort = 19,
+    #[error("a chain has 1 to 64 words")]
+    ChainSize = 20,
     // who edits a sentence
-    FolioFull,
-    NoWords,
-    NoPosition,
-    NoDisjunct,
-    NothingStands,
+    #[error("the folio holds 40 words already")]
+    FolioFull = 21,
+    #[error("the folio has no words")]
+    NoWords = 22,
+    #[error("there is no such position")]
+    NoPosition = 23,
+    #[error("the word has no such disjunct")]
+    NoDisjunct = 24,
+    #[error("the sum over all linkages is nothing")]
+    NothingStands = 25,
     // who lends memory
-    FewCells,
-    ShortLoan,
-    LongInput,
+    #[error("too few cells were lent")]
+    FewCells = 31,
+    #[error("too few places for choices or links were lent")]
+    ShortLoan = 32,
+    #[error("the input has more than 32768 bytes")]
+    LongInput = 33,
     // who files a linkage
-    ChoiceCount,
-    NoChoice,
-    StruckChoice,
-    LinkEnds,
-    LinkOrder,
-    Crossing,
-    LinkCount,
-    NoMatch,
+    #[error("there is not one choice for each word")]
+    ChoiceCount = 41,
+    #[error("a choice names no disjunct of its word")]
+    NoChoice = 42,
+    #[error("a choice names a struck disjunct")]
+    StruckChoice = 43,
+    #[error("a link's ends do not rise or lie outside the sentence")]
+    LinkEnds = 44,
+    #[error("the links do not strictly rise")]
+    LinkOrder = 45,
+    #[error("two links cross")]
+    Crossing = 46,
+    #[error("a word has a wrong number of links")]
+    LinkCount = 47,
+    #[error("the connectors at a link's ends do not match")]
+    NoMatch = 48,
 }
 
 impl Refusal {
@@ -51,70 +77,6 @@ impl Refusal {
     pub fn number(&self) -> u8
         ensures { result ≡ number_of self.now }
     {
-        match self {
-            Refusal::LineForm => 11,
-            Refusal::UnknownMark => 12,
-            Refusal::OutOfPlace => 13,
-            Refusal::TooDeep => 14,
-            Refusal::BadName => 15,
-            Refusal::ManyWays => 16,
-            Refusal::LongList => 17,
-            Refusal::WordTaken => 18,
-            Refusal::TableShort => 19,
-            Refusal::ChainSize => 20,
-            Refusal::FolioFull => 21,
-            Refusal::NoWords => 22,
-            Refusal::NoPosition => 23,
-            Refusal::NoDisjunct => 24,
-            Refusal::NothingStands => 25,
-            Refusal::FewCells => 31,
-            Refusal::ShortLoan => 32,
-            Refusal::LongInput => 33,
-            Refusal::ChoiceCount => 41,
-            Refusal::NoChoice => 42,
-            Refusal::StruckChoice => 43,
-            Refusal::LinkEnds => 44,
-            Refusal::LinkOrder => 45,
-            Refusal::Crossing => 46,
-            Refusal::LinkCount => 47,
-            Refusal::NoMatch => 48,
-        }
-    }
-
-    fn message(&self) -> &'static str {
-        match self {
-            Refusal::LineForm => "the line is not words, one tab and a formula",
-            Refusal::UnknownMark => "no token begins with this mark",
-            Refusal::OutOfPlace => "the formula allows no such token here",
-            Refusal::TooDeep => "brackets are open 16 deep already",
-            Refusal::BadName => "the connector's name has no sign or more than 8 bytes",
-            Refusal::ManyWays => "the formula has more than 64 ways",
-            Refusal::LongList => "a disjunct has more than 8 connectors on one side",
-            Refusal::WordTaken => "a word of the line is defined already or stands twice",
-            Refusal::TableShort => "the table is too short or would hold more than 256 words",
-            Refusal::ChainSize => "a chain has 1 to 64 words",
-            Refusal::FolioFull => "the folio holds 40 words already",
-            Refusal::NoWords => "the folio has no words",
-            Refusal::NoPosition => "there is no such position",
-            Refusal::NoDisjunct => "the word has no such disjunct",
-            Refusal::NothingStands => "the sum over all linkages is nothing",
-            Refusal::FewCells => "too few cells were lent",
-            Refusal::ShortLoan => "too few places for choices or links were lent",
-            Refusal::LongInput => "the input has more than 32768 bytes",
-            Refusal::ChoiceCount => "there is not one choice for each word",
-            Refusal::NoChoice => "a choice names no disjunct of its word",
-            Refusal::StruckChoice => "a choice names a struck disjunct",
-            Refusal::LinkEnds => "a link's ends do not rise or lie outside the sentence",
-            Refusal::LinkOrder => "the links do not strictly rise",
-            Refusal::Crossing => "two links cross",
-            Refusal::LinkCount => "a word has a wrong number of links",
-            Refusal::NoMatch => "the connectors at a link's ends do not match",
-        }
-    }
-}
-
-impl fmt::Display for Refusal {
-    fn fmt<W: fmt::Write>(&self, f: &mut fmt::Formatter<W>) -> fmt::Result {
-        f.write_str(self.message())
+        *self as u8
     }
 }

@@ -1,34 +1,31 @@
 use crate::case::numbers;
 use anyhow::anyhow;
-use formula::disjuncts::Disjuncts;
 use formula::meaning::meaning;
-use formula::name::name_at;
-use formula::names::Names;
 use formula::read::parse;
-use formula::ways::Ways;
+use formula::way::{Disjuncts, Names};
 use lexicon::dictionary::Dictionary;
 use lexicon::side::Side;
-use refusal::Refusal;
+use refusal::fault::LineFault;
 use std::alloc::{AllocError, Global};
 use written::closed::Written;
 use written::draft::Draft;
 use written::line::split;
 
-fn refused(heap: Global, refusal: Refusal, place: usize) -> Result<String, AllocError> {
-    let number = refusal.number();
+fn refused(heap: Global, fault: LineFault) -> Result<String, AllocError> {
+    let (number, place) = (fault.refusal.number(), fault.place);
     format!(in heap; "no {number} {place}")
 }
 
-/// Adds the names at some places of a formula.
-fn add_names(out: &mut String, formula: &[u8], names: &Names) -> Result<(), AllocError> {
-    if names.len == 0 {
+/// Adds the names of a list.
+fn add_names(out: &mut String, names: &Names<'_>) -> Result<(), AllocError> {
+    if names.is_empty() {
         out.push('-')?;
     }
-    for i in 0..names.len {
+    for (i, name) in names.iter().enumerate() {
         if i > 0 {
             out.push(',')?;
         }
-        for b in name_at(formula, names.places[i]) {
+        for b in *name {
             out.push(char::from(*b))?;
         }
     }
@@ -36,24 +33,21 @@ fn add_names(out: &mut String, formula: &[u8], names: &Names) -> Result<(), Allo
 }
 
 /// Adds a row for each disjunct.
-fn add_rows(out: &mut String, formula: &[u8], disjuncts: &Disjuncts) -> Result<(), AllocError> {
-    for i in 0..disjuncts.len {
+fn add_rows(out: &mut String, disjuncts: &Disjuncts<'_>) -> Result<(), AllocError> {
+    for disjunct in disjuncts {
         out.push_str("\ndis ")?;
-        add_names(out, formula, &disjuncts.items[i].left)?;
+        add_names(out, &disjunct.left)?;
         out.push(' ')?;
-        add_names(out, formula, &disjuncts.items[i].right)?;
+        add_names(out, &disjunct.right)?;
     }
     Ok(())
 }
 
 /// How many ways a formula has, with repeats.
 fn way_count(formula: &[u8]) -> usize {
-    let Ok(ways) = parse(formula) else {
-        return 0;
-    };
-    match ways {
-        Ways::Listed(listing) => listing.len,
-        Ways::Many => 0,
+    match parse(formula) {
+        Ok(Some(ways)) => ways.len(),
+        _ => 0,
     }
 }
 
@@ -61,12 +55,12 @@ fn way_count(formula: &[u8]) -> usize {
 pub(crate) fn to_formula(heap: Global, formula: &[u8]) -> Result<String, AllocError> {
     match meaning(formula) {
         Ok(disjuncts) => {
-            let (ways, kept) = (way_count(formula), disjuncts.len);
+            let (ways, kept) = (way_count(formula), disjuncts.len());
             let mut answer = format!(in heap; "ok {ways} {kept}")?;
-            add_rows(&mut answer, formula, &disjuncts)?;
+            add_rows(&mut answer, &disjuncts)?;
             Ok(answer)
         }
-        Err(fault) => refused(heap, fault.refusal, fault.place),
+        Err(fault) => refused(heap, fault),
     }
 }
 
@@ -78,9 +72,9 @@ fn to_taken(heap: Global, draft: &Draft<'_>, line: &[u8]) -> Result<String, Allo
     let Ok(disjuncts) = meaning(parts.formula) else {
         return String::from_str(heap, "ok, though the formula means nothing");
     };
-    let (spent, words, kept) = (draft.spent(), draft.words(), disjuncts.len);
+    let (spent, words, kept) = (draft.spent(), draft.words(), disjuncts.len());
     let mut answer = format!(in heap; "ok {spent} {words} {kept}")?;
-    add_rows(&mut answer, parts.formula, &disjuncts)?;
+    add_rows(&mut answer, &disjuncts)?;
     Ok(answer)
 }
 
@@ -97,7 +91,7 @@ pub(crate) fn to_line(
     if draft.spent() != spent || draft.words() != words {
         return String::from_str(heap, "no, and the draft has changed");
     }
-    refused(heap, fault.refusal, fault.place)
+    refused(heap, fault)
 }
 
 /// What a draft says to a text.

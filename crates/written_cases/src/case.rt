@@ -1,10 +1,11 @@
 ghost use Rattle.std.specs.Prelude.{◌<◌, IfOk};
 
-use anyhow::anyhow;
+use anyhow::{Context, anyhow};
 use std::alloc::Global;
+use std::str::FromStr;
 
 /// What a case is about.
-#[derive(Clone, Copy)]
+#[derive(Clone, Copy, PartialEq, Eq)]
 pub enum Kind {
     /// `formula HEX`: a formula alone. The answer is `ok WAYS D` and D disjuncts, or `no NUMBER PLACE`.
     Formula,
@@ -35,16 +36,27 @@ pub struct Case<'a> {
     pub answer: String,
 }
 
-fn kind_of(word: &str) -> anyhow::Result<Kind> {
-    match word {
-        "formula" => Ok(Kind::Formula),
-        "draft" => Ok(Kind::Draft),
-        "line" => Ok(Kind::Line),
-        "text" => Ok(Kind::Text),
-        "close" => Ok(Kind::Close),
-        "find" => Ok(Kind::Find),
-        "match" => Ok(Kind::Match),
-        _ => Err(anyhow!("a row begins with an unknown word")),
+impl FromStr for Kind {
+    type Err = anyhow::Error;
+
+    fn from_str(word: &str) -> anyhow::Result<Kind> {
+        match word {
+            "formula" => Ok(Kind::Formula),
+            "draft" => Ok(Kind::Draft),
+            "line" => Ok(Kind::Line),
+            "text" => Ok(Kind::Text),
+            "close" => Ok(Kind::Close),
+            "find" => Ok(Kind::Find),
+            "match" => Ok(Kind::Match),
+            _ => Err(anyhow!("a row begins with an unknown word")),
+        }
+    }
+}
+
+impl Case<'_> {
+    /// A section begins with each formula and with each draft.
+    pub(crate) fn begins_section(&self) -> bool {
+        matches!(self.kind, Kind::Formula | Kind::Draft)
     }
 }
 
@@ -58,9 +70,7 @@ fn parts<'a>(kind: Kind, rest: &'a str) -> (&'a str, &'a str) {
 
 /// One row more of the last case's answer.
 fn add_answer(cases: &mut Vec<Case<'_>>, row: &str) -> anyhow::Result<()> {
-    let Some(case) = cases.last_mut() else {
-        return Err(anyhow!("an answer to nothing"));
-    };
+    let case = cases.last_mut().context("an answer to nothing")?;
     if !case.answer.is_empty() {
         case.answer.push('\n')?;
     }
@@ -77,7 +87,7 @@ pub(crate) fn cases<'a>(heap: Global, text: &'a str) -> anyhow::Result<Vec<Case<
             "" | "#" => {}
             "ok" | "no" | "dis" => add_answer(&mut cases, row)?,
             _ => {
-                let (line, kind) = (i.saturating_add(1), kind_of(word)?);
+                let (line, kind) = (i.saturating_add(1), word.parse::<Kind>()?);
                 let (given, last) = parts(kind, rest);
                 let answer = String::from_str(heap, last)?;
                 cases.push(Case {

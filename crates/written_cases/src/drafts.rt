@@ -13,12 +13,10 @@ use written::draft::Draft;
 fn closing(cases: &[Case]) -> usize
     ensures { result ≤ length cases.now }
 {
-    for (i, case) in cases.iter().enumerate() {
-        if matches!(case.kind, Kind::Close) {
-            return i;
-        }
-    }
-    cases.len()
+    cases
+        .iter()
+        .position(|case| case.kind == Kind::Close)
+        .unwrap_or(cases.len())
 }
 
 /// Gives a draft a line or a text.
@@ -34,7 +32,7 @@ fn give(judge: &mut Judge<'_>, draft: &mut Draft<'_>, case: &Case) -> anyhow::Re
 
 /// Asks a draft for a word that its dictionary is asked for later.
 fn ask_early(judge: &mut Judge<'_>, draft: &Draft<'_>, case: &Case) -> anyhow::Result<()> {
-    if !matches!(case.kind, Kind::Find) {
+    if case.kind != Kind::Find {
         return Ok(());
     }
     let word = bytes(judge.heap(), case.given)?;
@@ -62,12 +60,12 @@ pub(crate) fn run(judge: &mut Judge<'_>, first: &Case, cases: &[Case]) -> anyhow
     let mut table = vec![in judge.heap(); 0u16; cells]?;
     let mut draft = Draft::new(table.as_mut_slice());
     let mut ends = Vec::new(judge.heap());
-    let closing = closing(cases);
-    for case in &cases[0..closing] {
+    let (lines, questions) = cases.split_at(closing(cases));
+    for case in lines {
         give(judge, &mut draft, case)?;
         ends.push(draft.words())?;
     }
-    for case in &cases[closing..] {
+    for case in questions {
         ask_early(judge, &draft, case)?;
     }
     let words = draft.words();
@@ -75,8 +73,8 @@ pub(crate) fn run(judge: &mut Judge<'_>, first: &Case, cases: &[Case]) -> anyhow
     if written.words() != words {
         judge.tell(first, "a dictionary with other words than its draft")?;
     }
-    for case in &cases[closing..] {
+    for case in questions {
         ask(judge, &written, case)?;
     }
-    compare_kept(judge, &written, &cases[0..closing], ends.as_slice())
+    compare_kept(judge, &written, lines, ends.as_slice())
 }

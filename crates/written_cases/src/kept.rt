@@ -80,7 +80,7 @@ pub(crate) fn compare_kept(
     };
     let mut first = 0;
     for (case, end) in cases.iter().zip(ends.iter()) {
-        if matches!(case.kind, Kind::Line) {
+        if case.kind == Kind::Line {
             for word in first..*end {
                 if !kept.word_has(u16::try_from(word)?, case.answer.as_str())? {
                     judge.tell(case, "a word with other disjuncts in the dictionary")?;

@@ -40,14 +40,9 @@ fn run(rt: &HostRuntime) -> anyhow::Result<()> {
     let text = io::read_to_string(rt.alloc(), rt.stdin())?;
     let cases = cases(rt.alloc(), text.as_str())?;
     let mut judge = Judge::new(rt);
-    let mut from = 0;
-    for (i, case) in cases.as_slice().iter().enumerate() {
-        if matches!(case.kind, Kind::Formula | Kind::Draft) {
-            run_section(&mut judge, &cases.as_slice()[from..i])?;
-            from = i;
-        }
+    for section in cases.chunk_by(|_, case| !case.begins_section()) {
+        run_section(&mut judge, section)?;
     }
-    run_section(&mut judge, &cases.as_slice()[from..])?;
     let tally = judge.tally();
     println!(rt; "{tally}")?;
     Ok(())
