@@ -1,7 +1,8 @@
+mod Chains
 mod Counted
 mod Filed
+mod Held
 mod Judged
-mod Loops
 mod Merged
 mod Refiled
 mod Right

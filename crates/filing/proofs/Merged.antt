@@ -1,13 +1,13 @@
 -- What a link more does to the parts: where its ends are joined already nothing changes, else two parts become one, so that
 -- there is one head fewer; and labels that tell the parts tell them again once the one end's label is put for the other's.
 use Rattle.std.proofs.Common.{◌≡◌, ℕ, zero, suc, ◌<◌, ◌≤◌, max, Bool, true, false, cond, not, ◌&&◌, eqb, ◌↔◌, List, [], ◌∷◌, ◌++◌, length, sym, refl, ap, ◌∙◌, subst, inl, inr, arith}
-use Rattle.std.proofs.lemmas.Bool.{and_from, and_parts, cases_Bool, cases_eq, cases_order, cond-false, cond-true, eq-eqb, ne_eqb, not_from_false, not_from_true}
+use Rattle.std.proofs.lemmas.Bool.{and_from, and_parts, cases_eq, cases_order, cond-false, cond-true, eq-eqb, eqb-true, ne_eqb, not_from_false, not_from_true}
 use Rattle.linkage.specs.Lists.{◌∈◌, here, there, Distinct, filter, range}
 use Rattle.linkage.specs.Parts.{Joined, heads, label, leads}
 use Rattle.linkage.proofs.Joins.{First, Leads, Same, Wire, first_or_none, labels_tell, leads_eq, leads_of, of_leads, same_cases, same_more, same_sub, same_wire}
 use Rattle.linkage.proofs.Members.{filter_cong, in_cases, in_left, in_none, in_right, in_split, not_in, not_of, same_test}
 use Rattle.linkage.proofs.Ranges.{distinct_range, in_range, of_range}
-use Rattle.filing.proofs.Refiled.{filter_all}
+use Rattle.filing.proofs.Refiled.{and_yes, filter_all}
 
 -- Links in another order join the same.
 same_order : (es fs : List Wire) → ((e : Wire) → e ∈ es → e ∈ fs) → (u v : ℕ) → Same es u v → Same fs u v
@@ -61,10 +61,6 @@ filter_but p m (x ∷ xs) d i h = elim (cases_eq x m) [
     not_true' : (a b : Bool) → b ≡ true → (a && not b) ≡ false
     not_true' true b e = not_from_true b e
     not_true' false b e = refl
-
-    and_yes : (a b : Bool) → b ≡ true → (a && b) ≡ a
-    and_yes true b e = e
-    and_yes false b e = refl
 
     counted : (b c : Bool) → c ≡ b → (us vs : List ℕ) → suc (length us) ≡ length vs → suc (length (cond c (x ∷ us) us)) ≡ length (cond b (x ∷ vs) vs)
     counted true c e us vs r = ap (λ z. suc (length (cond z (x ∷ us) us))) e ∙ ap suc r
@@ -148,7 +144,7 @@ module _ (e : Wire) (es : List Wire) (n : ℕ) (in-a : e.0 < n) (in_b : e.1 < n)
   leads_but u = same_test (leads (e ∷ es) 0 u) (leads es 0 u && not (eqb u gone))
       (λ t. let l = leads_of (e ∷ es) 0 u t in
       and_from (leads es 0 u) (not (eqb u gone)) (of_leads es 0 u (λ v p lt s. l v p lt (same_more e es v u s)))
-      (not_in (eqb u gone) (λ q. gone_leads_not (subst (Leads (e ∷ es) 0) (Rattle.std.proofs.lemmas.Bool.eqb-true u gone q) l))))
+      (not_in (eqb u gone) (λ q. gone_leads_not (subst (Leads (e ∷ es) 0) (eqb-true u gone q) l))))
       (λ t. let k = and_parts (leads es 0 u) (not (eqb u gone)) t in
       of_leads (e ∷ es) 0 u (others_lead u (leads_of es 0 u k.0) (λ q. not_of (eqb u gone) k.1 (eq-eqb u gone q))))
 

@@ -7,7 +7,7 @@ use Rattle.linkage.specs.Linkages.{Linkage, Place, Rising, choice_at, links, lin
 use Rattle.linkage.specs.Links.{earlier}
 use Rattle.linkage.specs.Sentences.{Choice, bare, takes}
 use Rattle.linkage.proofs.Joins.{Wire}
-use Rattle.linkage.proofs.Members.{every_in, every_of, filter_++, in_cases, in_one, in_split, of_filter, of_map}
+use Rattle.linkage.proofs.Members.{every_in, every_of, filter_++, in_cases, in_split, of_filter, of_map}
 use Rattle.linkage.proofs.Ranges.{of_range}
 use Rattle.linkage.proofs.Rows.{Rows, behind, rising_in}
 use Rattle.linkage.proofs.Weights.{of_links}
@@ -33,7 +33,7 @@ no_sooner e f t = elim (earlier_parts e f t) [ inl h ↦ omega arith | inr h ↦
 pub ordered_parts : (e : Wire) (es : List Wire) → ordered (e ∷ es) ≡ true → ((f : Wire) → f ∈ es → earlier e f ≡ true) × (ordered es ≡ true)
 ordered_parts e es t = let b = and_parts (every (earlier e) es) (ordered es) t in (λ f m. every_in (earlier e) b.0 m, b.1)
 
-ordered_cons : (e : Wire) (es : List Wire) → ((f : Wire) → f ∈ es → earlier e f ≡ true) → ordered es ≡ true → ordered (e ∷ es) ≡ true
+pub ordered_cons : (e : Wire) (es : List Wire) → ((f : Wire) → f ∈ es → earlier e f ≡ true) → ordered es ≡ true → ordered (e ∷ es) ≡ true
 ordered_cons e es h t = and_from (every (earlier e) es) (ordered es) (every_of (earlier e) es h) t
 
 ordered_filter : (p : Wire → Bool) (es : List Wire) → ordered es ≡ true → ordered (filter p es) ≡ true
@@ -51,9 +51,6 @@ ordered_++ (e ∷ es) fs t u h =
     ordered_cons e (es ++ fs) (λ f m. elim (in_split es m) [ inl k ↦ b.0 f k | inr k ↦ h e f (here refl) k ])
     (ordered_++ es fs b.1 u (λ d f p q. h d f (there p) q))
 
-pub ordered_snoc : (es : List Wire) (e : Wire) → ordered es ≡ true → ((f : Wire) → f ∈ es → earlier f e ≡ true) → ordered (es ++ (e ∷ [])) ≡ true
-ordered_snoc es e t h = ordered_++ es (e ∷ []) t refl (λ f g m k. in_one k (λ g. earlier f g ≡ true) (h f m))
-
 pub earlier_trans : (e f g : Wire) → earlier e f ≡ true → earlier f g ≡ true → earlier e g ≡ true
 earlier_trans e f g p q = elim (earlier_parts e f p) [
   | inl a ↦ earlier_left e g (let b = no_sooner f g q in omega arith)
@@ -62,6 +59,11 @@ earlier_trans e f g p q = elim (earlier_parts e f p) [
     | inr b ↦ let y = a.1 in let z = b.1 in earlier_right e g (a.0 ∙ b.0) (omega arith)
   ]
 ]
+
+-- A test behind which another passes.
+pub and_yes : (a b : Bool) → b ≡ true → (a && b) ≡ a
+and_yes true b e = e
+and_yes false b e = refl
 
 -- A filter that keeps all, and one that keeps none.
 pub filter_all : {A : Type 0} (p : A → Bool) (xs : List A) → ((x : A) → x ∈ xs → p x ≡ true) → filter p xs ≡ xs

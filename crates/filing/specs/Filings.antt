@@ -1,10 +1,11 @@
 -- How a filing is judged: choices and links that somebody gives for the words of a sentence.
-use Rattle.std.specs.Prelude.{◌≡◌, ℕ, ◌<◌, Bool, true, false, cond, not, ◌&&◌, ◌↔◌, List, [], ◌∷◌, map, length, Some, None, Ok, Err, Option, Result, ◌==◌, nat_eq, nat_lt, slice_index_or, refl}
+use Rattle.std.specs.Prelude.{◌≡◌, ℕ, ◌<◌, Bool, true, false, cond, not, ◌&&◌, ◌↔◌, List, [], ◌∷◌, ◌++◌, map, length, Some, None, Ok, Err, Option, Result, ◌==◌, nat_eq, nat_lt, slice_index_or, refl}
 use Rattle.refusal.specs.declared.Refusal.{Refusal}
 use Rattle.refusal.specs.declared.Refusal.TheVariants.{NoWords, ChoiceCount, NoChoice, StruckChoice, LinkEnds, LinkOrder, Crossing, LinkCount, NoMatch}
 use Rattle.linkage.specs.Lists.{every, filter, range}
 use Rattle.linkage.specs.Linkages.{Linkage, Partial, Place, full, links, matching, uncrossed}
-use Rattle.linkage.specs.Links.{earlier}
+use Rattle.linkage.specs.Links.{earlier, ends}
+use Rattle.linkage.specs.declared.link.Link.{Link}
 use Rattle.linkage.specs.Parts.{parts}
 use Rattle.linkage.specs.Sentences.{Choice, Position, Sentence, bare, position, size, takes}
 
@@ -34,6 +35,10 @@ abbrev pub allowed : Position → Choice → Bool
 allowed p bare = true
 allowed p (takes k) = not (p.struck k)
 
+-- The links of a filing, as pairs.
+abbrev pub pairs : List Link → List (ℕ × ℕ)
+pairs ls = map ends ls
+
 -- The left end comes before the right one, and both are positions.
 abbrev pub rises : (n : ℕ) → (ℕ × ℕ) → Bool
 rises n e = nat_lt e.0 e.1 && nat_lt e.1 n
@@ -50,24 +55,32 @@ row_of es i = map (λ (e : ℕ × ℕ). e.1) (filter (λ (e : ℕ × ℕ). nat_e
 abbrev pub filed : (n : ℕ) → List ℕ → List (ℕ × ℕ) → Linkage
 filed n cs es = map (λ i. record { choice = chosen cs i; after = row_of es i }) (range 0 n)
 
--- The tests in the order of their numbers, each over the whole filing.
-abbrev pub tests : Sentence → List ℕ → List (ℕ × ℕ) → List (Bool × Refusal)
-tests s cs es =
+-- The tests in the order of their numbers, each over the whole filing: of the choices alone, of the links alone, and of the linkage.
+abbrev pub choice_tests : Sentence → List ℕ → List (Bool × Refusal)
+choice_tests s cs =
     (nat_lt 0 (size s), NoWords)
     ∷ ((length cs == size s), ChoiceCount)
     ∷ (every (λ i. there (position s i) (chosen cs i)) (range 0 (size s)), NoChoice)
     ∷ (every (λ i. allowed (position s i) (chosen cs i)) (range 0 (size s)), StruckChoice)
-    ∷ (every (rises (size s)) es, LinkEnds)
-    ∷ (ordered es, LinkOrder)
-    ∷ (uncrossed (filed (size s) cs es), Crossing)
-    ∷ (full s (filed (size s) cs es), LinkCount)
-    ∷ (matching s (filed (size s) cs es), NoMatch)
     ∷ []
+
+abbrev pub link_tests : (n : ℕ) → List (ℕ × ℕ) → List (Bool × Refusal)
+link_tests n es = (every (rises n) es, LinkEnds) ∷ (ordered es, LinkOrder) ∷ []
+
+abbrev pub rule_tests : Sentence → Linkage → List (Bool × Refusal)
+rule_tests s x = (uncrossed x, Crossing) ∷ (full s x, LinkCount) ∷ (matching s x, NoMatch) ∷ []
+
+abbrev pub tests : Sentence → List ℕ → List (ℕ × ℕ) → List (Bool × Refusal)
+tests s cs es = choice_tests s cs ++ (link_tests (size s) es ++ rule_tests s (filed (size s) cs es))
 
 -- The refusal of the first test that fails.
 abbrev pub judged : {A : Type 0} → List (Bool × Refusal) → A → Result A Refusal
 judged [] a = Ok a
 judged (t ∷ ts) a = cond t.0 (judged ts a) (Err t.1)
+
+-- Whether each test passes, or that refusal.
+abbrev pub tested : List (Bool × Refusal) → Result (Unit {0}) Refusal
+tested ts = judged ts tt
 
 -- The answer to a filing: its number of parts, or its first refusal.
 abbrev pub checked : Sentence → List ℕ → List (ℕ × ℕ) → Result ℕ Refusal

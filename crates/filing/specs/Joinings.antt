@@ -4,5 +4,6 @@ use Rattle.linkage.specs.Parts.{Joined, heads}
 use Rattle.filing.specs.declared.joins.Joins.{Joins}
 
 pub record Holds (es : List (ℕ × ℕ)) (j : Joins) : Type 0 where
-  pub labels : (u v : ℕ) → u < j.count → v < j.count → (slice_index j.labels u ≡ slice_index j.labels v) ↔ Joined es u v
-  pub parts : j.parts ≡ length (heads es j.count)
+  pub labels : (u v : ℕ) → u < length j.labels.items → v < length j.labels.items →
+      (slice_index j.labels.items u ≡ slice_index j.labels.items v) ↔ Joined es u v
+  pub parts : j.parts ≡ length (heads es (length j.labels.items))

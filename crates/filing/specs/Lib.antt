@@ -1,3 +1,3 @@
-pub mod Counts
 pub mod Filings
+pub mod Given
 pub mod Joinings

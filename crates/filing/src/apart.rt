@@ -2,8 +2,7 @@ ghost use Rattle.std.specs.Prelude.{◌≡◌, not};
 ghost use Rattle.linkage.specs.Lists.{every};
 ghost use Rattle.linkage.specs.Linkages.{crosses};
 ghost use Rattle.linkage.specs.Links.{ends};
-ghost use Rattle.filing.specs.Counts.{pairs};
-ghost use Rattle.filing.specs.Filings.{ordered, rises};
+ghost use Rattle.filing.specs.Filings.{ordered, pairs, rises};
 
 use linkage::link::Link;
 
@@ -11,24 +10,16 @@ use linkage::link::Link;
 pub(crate) fn all_rise(links: &[Link], words: usize) -> bool
     ensures { result ≡ every (rises words) (pairs links.now) }
 {
-    for link in links {
-        if link.left >= link.right || link.right >= words {
-            return false;
-        }
-    }
-    true
+    links
+        .iter()
+        .all(|link| link.left < link.right && link.right < words)
 }
 
 /// Whether links stand in order, each once.
 pub(crate) fn in_order(links: &[Link]) -> bool
     ensures { result ≡ ordered (pairs links.now) }
 {
-    for i in 1..links.len() {
-        if !links[i - 1].precedes(&links[i]) {
-            return false;
-        }
-    }
-    true
+    links.is_sorted_by(|one, other| one.precedes(other))
 }
 
 fn cross(one: &Link, other: &Link) -> bool
@@ -41,22 +32,12 @@ fn cross(one: &Link, other: &Link) -> bool
 fn crosses_none(link: &Link, links: &[Link]) -> bool
     ensures { result ≡ every (λ f. not (crosses (ends link.now) f)) (pairs links.now) }
 {
-    for other in links {
-        if cross(link, other) {
-            return false;
-        }
-    }
-    true
+    links.iter().all(|other| !cross(link, other))
 }
 
 /// Whether no two links cross.
 pub(crate) fn none_cross(links: &[Link]) -> bool
     ensures { result ≡ every (λ e. every (λ f. not (crosses e f)) (pairs links.now)) (pairs links.now) }
 {
-    for link in links {
-        if !crosses_none(link, links) {
-            return false;
-        }
-    }
-    true
+    links.iter().all(|link| crosses_none(link, links))
 }

@@ -1,15 +1,17 @@
 //! Filings: choices and links that somebody gives for a sentence are judged, and their parts counted.
 //!
-//! - `choice`: what is chosen at a position, and what it asks for.
-//! - `count`: how many links there are at a word.
+//! - `choice`: what is chosen at a position, what it asks for, and the tests of choices alone.
 //! - `apart`: the tests of links alone.
-//! - `check`: the judge of filings.
+//! - `linked`: choices with links that rise and stand in order.
+//! - `rules`: whether they keep the rules of linkages.
 //! - `joins`: which positions links hold together, and how many parts they make.
+//! - `check`: the judge of filings.
 
 #![tactic(auto)]
 
 mod apart;
 pub mod check;
 mod choice;
-mod count;
 mod joins;
+mod linked;
+mod rules;

@@ -2,8 +2,9 @@
 
 #![tactic(auto)]
 
-ghost use Rattle.std.specs.Prelude.{[], ◌≡◌, length};
+ghost use Rattle.std.specs.Prelude.{[], ◌≡◌, ◌≤◌, length};
 ghost use Rattle.linkage.specs.declared.call.Call.TheVariants.{Add, Drop, Change, Strike, Allow};
+ghost use Rattle.linkage.specs.Ledgers.{most_words};
 ghost use Rattle.rows.specs.Answers.{added, changed, dropped, newly_allowed, newly_struck, standing_of, word_of};
 ghost use Rattle.rows.specs.Edits.{Edited};
 ghost use Rattle.rows.specs.Tables.{ledger_of, marks_of, no_marks};
@@ -90,7 +91,8 @@ impl<D: Dictionary> Folio<D> {
 
     /// How many words there are.
     pub fn length(&self) -> usize
-        ensures { result ≡ length (ledger_of self.now.rows) }
+        ensures length { result ≡ length (ledger_of self.now.rows) }
+        ensures few { length (ledger_of self.now.rows) ≤ most_words }
     {
         self.rows.length()
     }

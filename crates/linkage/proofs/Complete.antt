@@ -1,13 +1,15 @@
 -- Each valid piece whose ends are not linked is made.
-use Rattle.std.proofs.Common.{◌≡◌, ℕ, zero, suc, ◌+◌, ◌-◌, ◌<◌, ◌≤◌, Bool, true, false, eqb, ◌⊎◌, List, [], ◌∷◌, ◌++◌, map, length, sym, refl, ap, ◌∙◌, subst, subst₂, inl, inr, arith, length-append}
+use Rattle.std.proofs.Common.{◌≡◌, ℕ, zero, suc, ◌+◌, ◌-◌, ◌<◌, ◌≤◌, Bool, true, false, eqb, ◌⊎◌, List, [], ◌∷◌, ◌++◌, map, length, get_or, take, drop, sym, refl, ap, ◌∙◌, subst, subst₂, inl, inr, arith, length-append}
+use Rattle.std.proofs.Math.Seq.{split_at}
+use Rattle.std.proofs.lemmas.List.{length-take-le, nil_from_length}
 use mathlib.Core.Option.{none, some}
 use mathlib.Core.Path.{subst₃}
 use Rattle.std.proofs.lemmas.Bool.{both_ways, cases_lt, cond_both, eqb-false, eqb-true}
 use Rattle.linkage.specs.Inside.{Waiting}
 use Rattle.linkage.specs.Lists.{◌∈◌, here, there, back, empty, has}
-use Rattle.linkage.specs.Linkages.{Linkage, Place, Rising}
+use Rattle.linkage.specs.Linkages.{Linkage, Place, Rising, unlinked}
 use Rattle.linkage.specs.Sentences.{Choice, Sentence, choices, lefts, rights}
-use Rattle.linkage.proofs.Members.{cons_of, has_in, in_concatMap, in_cons, in_has, in_left, in_map, in_none, in_one, in_right, in_split, nil_of}
+use Rattle.linkage.proofs.Members.{cons_of, has_in, in_concatMap, in_cons, in_has, in_left, in_map, in_none, in_one, in_right, in_split}
 use Rattle.linkage.proofs.Ranges.{back_none, back_snoc, back_some, snoc_cases}
 use Rattle.linkage.proofs.Fits.{Side, into_none, side}
 use Rattle.linkage.proofs.Rows.{Rows, along_++, each_left, needs, outs, outs_span, rising_front, rising_in, rising_last}
@@ -17,12 +19,6 @@ use Rattle.linkage.proofs.Once.{pair_eq}
 
 abbrev pub Complete : Sentence → ℕ → Type 0
 Complete s f = (L R : ℕ) (l r : List ℕ) (x : Piece) → R ≤ L + f → Open s L R l r x → x ∈ pieces s f L R l r
-
-split_at : {A : Type 0} (k : ℕ) (xs : List A) → k < length xs
-    → (us : List A) × (y : A) × (vs : List A) × (xs ≡ us ++ (y ∷ vs)) × (length us ≡ k)
-split_at k [] h = absurd (omega arith)
-split_at zero (x ∷ xs) h = ([], x, xs, refl, refl)
-split_at (suc k) (x ∷ xs) h = let r = split_at k xs (omega arith) in (x ∷ r.0, r.1, r.2, ap (λ l. x ∷ l) r.3, ap suc r.4)
 
 -- Nothing of some places links to R; else there is a first place that does.
 abbrev Free : Sentence → (R i : ℕ) → Linkage → Type 0
@@ -104,7 +100,7 @@ module _ (s : Sentence) (f : ℕ) (ih : Complete s f) where
       let c = p.choice in
       let y : Piece = (p.after, ps) in
       let u = unglue s L (suc L) R [] [] c ([], []) y (omega arith) o.valid (λ j m. absurd (in_none m)) (λ a m j k. absurd (in_none m)) in
-      let e : lefts s (suc L) c ≡ [] = nil_of (lefts s (suc L) c) (sym (u.0.fits.full_in (suc L, lefts s (suc L) c) (here refl))) in
+      let e : lefts s (suc L) c ≡ [] = nil_from_length (lefts s (suc L) c) (sym (u.0.fits.full_in (suc L, lefts s (suc L) c) (here refl))) in
       let w : Open s (suc L) R (rights s (suc L) c) [] y = record {
         valid = u.1;
         free = λ m. none_to s (suc L) R (rights s (suc L) c) y u.1 (side (suc L) p.after (rights s (suc L) c)) (here refl) m;
@@ -187,12 +183,12 @@ module _ (s : Sentence) (f : ℕ) (ih : Complete s f) where
       let len : suc L + length x.1 ≡ R = o.valid.len in
       let z : length x.0 ≡ 0 = o.valid.fits.full_out (side L x.0 l) (here refl) ∙ ap length (back_none l el) in
       let k = cons_of x.1 (λ e. d (omega arith)) in
-      let q : x ≡ ([], k.0 ∷ k.1) = pair_eq (nil_of x.0 z) k.2 in
+      let q : x ≡ ([], k.0 ∷ k.1) = pair_eq (nil_from_length x.0 z) k.2 in
       subst (λ y. y ∈ inner_pieces s (pieces s f) L R [] none none) (sym q)
       (gap_complete L R k.0 k.1 h (subst₃ (λ a b y. Open s L R a b y) (back_none l el) (back_none r er) q o))
   inner_complete L R l r none (some q) x h d el er o =
       let z : length x.0 ≡ 0 = o.valid.fits.full_out (side L x.0 l) (here refl) ∙ ap length (back_none l el) in
-      go (first_or_free s R (suc L) x.1) (nil_of x.0 z)
+      go (first_or_free s R (suc L) x.1) (nil_from_length x.0 z)
     where
       go : First s R (suc L) x.1 ⊎ Free s R (suc L) x.1 → x.0 ≡ [] → x ∈ inner_pieces s (pieces s f) L R r none (some q)
       go (inl k) e =
@@ -218,20 +214,23 @@ module _ (s : Sentence) (f : ℕ) (ih : Complete s f) where
           let WR : W < suc R = front.2 in
           let WnR : W ≡ R → ⊥ = λ e. o.free (subst₂ (λ u v. u ∈ v) e (sym k.2) (in_right k.0 (here refl))) in
           let len : suc L + length x.1 ≡ R = o.valid.len in
-          let t = split_at (W - suc L) x.1 (omega arith) in
-          let lu : suc L + length t.0 ≡ W = (let w = t.4 in omega arith) in
-          let g : x ≡ (k.0 ++ (W ∷ []), t.0 ++ (t.1 ∷ t.2)) = pair_eq k.2 t.3 in
+          let m = W - suc L in
+          let us = take m x.1 in
+          let p = get_or x.1 m unlinked in
+          let vs = drop (suc m) x.1 in
+          let lu : suc L + length us ≡ W = omega (arith, length-take-le m x.1 (omega arith)) in
+          let g : x ≡ (k.0 ++ (W ∷ []), us ++ (p ∷ vs)) = pair_eq k.2 (split_at x.1 m unlinked (omega arith)) in
           subst (λ y. y ∈ inner_pieces s (pieces s f) L R r (some b) wr) (sym g)
-          (left_complete L W R l r b wr k.0 t.0 t.1 t.2 h el lu (subst (Open s L R l r) g o))
+          (left_complete L W R l r b wr k.0 us p vs h el lu (subst (Open s L R l r) g o))
 
   edge_complete : (L R : ℕ) (l r : List ℕ) (x : Piece) → R ≡ suc L → Open s L R l r x → x ∈ edge_pieces l r
   edge_complete L R l r x e o =
       let len : suc L + length x.1 ≡ R = o.valid.len in
-      let e₁ : x.1 ≡ [] = nil_of x.1 (omega arith) in
+      let e₁ : x.1 ≡ [] = nil_from_length x.1 (omega arith) in
       let e₀ : x.0 ≡ [] = no_room x.0 o.valid.row o.free in
-      let el : l ≡ [] = nil_of l (sym (o.valid.fits.full_out (side L x.0 l) (here refl)) ∙ ap length e₀) in
+      let el : l ≡ [] = nil_from_length l (sym (o.valid.fits.full_out (side L x.0 l) (here refl)) ∙ ap length e₀) in
       let none_in = into_none (sides s L l x) R (λ a m. in_cons m (λ (a : Side). R ∈ a.to → ⊥) o.free (λ a m. absurd (in_none (subst (λ z. a ∈ outs s (suc L) z) e₁ m)))) in
-      let er : r ≡ [] = nil_of r (sym (o.valid.fits.full_in (R, r) (in_right (needs s (suc L) x.1) (here refl))) ∙ ap length none_in) in
+      let er : r ≡ [] = nil_from_length r (sym (o.valid.fits.full_in (R, r) (in_right (needs s (suc L) x.1) (here refl))) ∙ ap length none_in) in
       subst₂ (λ a b. x ∈ edge_pieces a b) (sym el) (sym er) (here (pair_eq e₀ e₁))
     where
       no_room : (xs : List ℕ) → Rising L (suc R) xs → (R ∈ xs → ⊥) → xs ≡ []

@@ -1,7 +1,7 @@
 -- When the links of some positions fit: each position has as many to each side as it asks for, none cross, and the connectors
 -- of each match. Shown here is how that splits at a position over which no link passes, and what a link between the two ends
 -- of a region adds to it. Nothing is said of sentences but which connectors match.
-use Rattle.std.proofs.Common.{◌≡◌, ℕ, suc, ◌<◌, ◌≤◌, Bool, true, false, cond, ◌||◌, eqb, ◌⊎◌, ◌↔◌, List, [], ◌∷◌, ◌++◌, length, get_or, sym, refl, ap, ◌∙◌, subst, ap₂, inl, inr, append_assoc, append-nil, arith}
+use Rattle.std.proofs.Common.{◌≡◌, ℕ, ◌+◌, ◌<◌, ◌≤◌, Bool, true, false, cond, ◌||◌, eqb, ◌⊎◌, ◌↔◌, List, [], ◌∷◌, ◌++◌, length, get_or, sym, refl, ap, ◌∙◌, subst, ap₂, inl, inr, append_assoc, append-nil, arith, length-append}
 use Rattle.std.proofs.lemmas.Bool.{cond-true, eq-eqb, ne_eqb}
 use Rattle.linkage.specs.Lists.{◌∈◌, here, there, has, place_of}
 use Rattle.linkage.proofs.Members.{eqb_cases, has_in, has_not, in_both, in_cases, in_cons, in_has, in_left, in_none, in_one, in_right, in_split}
@@ -134,11 +134,7 @@ module _ (matches : ℕ → ℕ → Bool) (O P : List Side) (I J : List Need) (L
         agree_from matches (into (O ++ P) b.0) (into P b.0) a b (into_right b.0 (nJ b q).0) (f.agree a b (in_right O p) (in_right I q));
   }
 
--- A last position more, and its connector.
-snoc_length : (xs : List ℕ) (y : ℕ) → length (xs ++ (y ∷ [])) ≡ suc (length xs)
-snoc_length [] y = refl
-snoc_length (x ∷ xs) y = ap suc (snoc_length xs y)
-
+-- The connector of a last position more.
 by_place_in : (cs xs : List ℕ) (c y j : ℕ) → length xs ≡ length cs → j ∈ xs → by_place (cs ++ (c ∷ [])) (xs ++ (y ∷ [])) j ≡ by_place cs xs j
 by_place_in cs [] c y j h m = absurd (in_none m)
 by_place_in [] (x ∷ xs) c y j h m = absurd (omega arith)
@@ -228,11 +224,11 @@ module _ (matches : ℕ → ℕ → Bool) (O : List Side) (I : List Need) (L R :
         let lr : length (into O R) ≡ length r = sym (ap length (into_short l)) ∙ f.full_in (R, r) (in_right I (here refl)) in
         record {
           full_out = λ a m. in_cons m (λ a. length a.to ≡ length a.by)
-              (snoc_length row R ∙ ap suc lrow ∙ sym (snoc_length l c)) (λ a m. f.full_out a (there m));
+              (length-append row (R ∷ []) ∙ ap (λ n. n + 1) lrow ∙ sym (length-append l (c ∷ []))) (λ a m. f.full_out a (there m));
           full_in = λ b m. in_both I m (λ b. length (into (long l⁺ ∷ O) b.0) ≡ length b.1)
               (λ b m. ap length (agree_inner l⁺ l (long l⁺) b m) ∙ f.full_in b (in_left ((R, r) ∷ []) m))
               (λ b m. in_one m (λ b. length (into (long l⁺ ∷ O) b.0) ≡ length b.1)
-              (ap length (into_long l⁺) ∙ snoc_length (into O R) L ∙ ap suc lr ∙ sym (snoc_length r e)));
+              (ap length (into_long l⁺) ∙ length-append (into O R) (L ∷ []) ∙ ap (λ n. n + 1) lr ∙ sym (length-append r (e ∷ []))));
           apart = λ a b p q. in_cons p (λ a. Apart a b)
               (in_cons q (λ b. Apart (long l⁺) b) (λ j m u v x y z. omega arith)
               (λ b q j m u v x y z. elim (in_split row u) [
@@ -258,8 +254,8 @@ module _ (matches : ℕ → ℕ → Bool) (O : List Side) (I : List Need) (L R :
     unlink_fits f =
         let full : length (row ++ (R ∷ [])) ≡ length l⁺ = f.full_out (long l⁺) (here refl) in
         let filled : length (into O R ++ (L ∷ [])) ≡ length r⁺ = sym (ap length (into_long l⁺)) ∙ f.full_in (R, r⁺) (in_right I (here refl)) in
-        let lrow : length row ≡ length l = less (sym (snoc_length row R) ∙ full ∙ snoc_length l c) in
-        let lr : length (into O R) ≡ length r = less (sym (snoc_length (into O R) L) ∙ filled ∙ snoc_length r e) in (
+        let lrow : length row ≡ length l = omega (arith, full, length-append row (R ∷ []), length-append l (c ∷ [])) in
+        let lr : length (into O R) ≡ length r = omega (arith, filled, length-append (into O R) (L ∷ []), length-append r (e ∷ [])) in (
           (agree_last lrow lr).0 (f.agree (long l⁺) (R, r⁺) (here refl) (in_right I (here refl))),
           record {
             full_out = λ a m. in_cons m (λ a. length a.to ≡ length a.by) lrow (λ a m. f.full_out a (there m));
@@ -281,9 +277,6 @@ module _ (matches : ℕ → ℕ → Bool) (O : List Side) (I : List Need) (L R :
                 (λ k. sym (ap (matches (by_place a.by a.to R)) (same_into_R lrow lr a p k)) ∙ f.agree a (R, r⁺) (there p) (in_right I (here refl)) k)));
           },
         )
-      where
-        less : {m n : ℕ} → suc m ≡ suc n → m ≡ n
-        less e = omega arith
 
   -- Such a link takes a last connector at both ends.
   pub ends : (l r : List ℕ) → Fits matches (long l ∷ O) (I ++ ((R, r) ∷ []))
@@ -291,10 +284,10 @@ module _ (matches : ℕ → ℕ → Bool) (O : List Side) (I : List Need) (L R :
   ends l r f =
       let p : length (row ++ (R ∷ [])) ≡ length l = f.full_out (long l) (here refl) in
       let q : length (into O R ++ (L ∷ [])) ≡ length r = sym (ap length (into_long l)) ∙ f.full_in (R, r) (in_right I (here refl)) in
-      go (snoc_cases l) (snoc_cases r) (sym (snoc_length row R) ∙ p) (sym (snoc_length (into O R) L) ∙ q)
+      go (snoc_cases l) (snoc_cases r) (sym (length-append row (R ∷ [])) ∙ p) (sym (length-append (into O R) (L ∷ [])) ∙ q)
     where
       go : (l ≡ []) ⊎ ((ys : List ℕ) × (y : ℕ) × (l ≡ ys ++ (y ∷ []))) → (r ≡ []) ⊎ ((ys : List ℕ) × (y : ℕ) × (r ≡ ys ++ (y ∷ [])))
-          → suc (length row) ≡ length l → suc (length (into O R)) ≡ length r
+          → length row + 1 ≡ length l → length (into O R) + 1 ≡ length r
           → (l' : List ℕ) × (c : ℕ) × (r' : List ℕ) × (e : ℕ) × (l ≡ l' ++ (c ∷ [])) × (r ≡ r' ++ (e ∷ []))
       go (inl e) k p q = let z : length l ≡ 0 = ap length e in absurd (omega arith)
       go (inr x) (inl e) p q = let z : length r ≡ 0 = ap length e in absurd (omega arith)

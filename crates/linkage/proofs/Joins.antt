@@ -2,10 +2,10 @@
 -- between L and R, where L and R count as joined, `loose` counts the parts that hold together with neither; it adds up where
 -- regions are glued, and grows by one where a part begins. At the end, what labels tell is the equivalence that links generate.
 use Rattle.std.proofs.Common.{◌≡◌, ℕ, zero, suc, ◌+◌, ◌-◌, ◌<◌, ◌≤◌, min, max, Bool, true, false, cond, not, ◌&&◌, eqb, ltb, leb, ◌⊎◌, ◌↔◌, List, [], ◌∷◌, ◌++◌, length, sym, refl, ap, ◌∙◌, subst, ap₂, inl, inr, arith, length-append}
-use Rattle.std.proofs.lemmas.Bool.{and_from, and_left, and_right, both_ways, cases_Bool, cases_eq, cases_order, cond-false, cond-true, eq-eqb, le-leb, le-ltb, lt-leb, lt-ltb, ne_eqb, true≢false}
+use Rattle.std.proofs.lemmas.Bool.{and_from, and_left, and_right, cases_Bool, cases_eq, cases_order, cond-false, cond-true, eq-eqb, eqb-true, false_from_ne_true, le-leb, le-ltb, lt-leb, lt-ltb, ne_eqb, true≢false}
 use Rattle.linkage.specs.Lists.{◌∈◌, here, there, between, filter, range}
 use Rattle.linkage.specs.Parts.{Heads, Joined, alone, chained, heads, label, leads, link, turned}
-use Rattle.linkage.proofs.Members.{distinct_filter, eqb_cases, every_in, every_of, filter_++, filter_cong, in_both, in_cons, in_filter, in_left, in_right, not_in, not_of, of_filter, same_test}
+use Rattle.linkage.proofs.Members.{distinct_filter, every_in, every_of, filter_++, filter_cong, in_both, in_cons, in_filter, in_left, in_right, not_in, not_of, of_filter, same_test}
 use Rattle.linkage.proofs.Ranges.{between_split, distinct_range, in_range, of_between, of_range}
 
 abbrev pub Wire : Type 0
@@ -79,17 +79,15 @@ leads_of es p u e v h k q =
 pub of_leads : (es : List Wire) (p u : ℕ) → Leads es p u → leads es p u ≡ true
 of_leads es p u h =
     every_of (λ v. not (eqb (label es v) (label es u))) (range p (u - p))
-    (λ v m. let r = of_range p (u - p) v m in not_in (eqb (label es v) (label es u)) (λ e. elim (eqb_cases (label es v) (label es u)) [
-      | inl q ↦ h v r.0 (omega arith) q.0
-      | inr q ↦ both_ways (eqb (label es v) (label es u)) q.1 e
-    ]))
+    (λ v m. let r = of_range p (u - p) v m in not_in (eqb (label es v) (label es u))
+    (λ e. h v r.0 (omega arith) (eqb-true (label es v) (label es u) e)))
 
 pub leads_eq : (es fs : List Wire) (p q u : ℕ) → (Leads es p u → Leads fs q u) → (Leads fs q u → Leads es p u) → leads es p u ≡ leads fs q u
 leads_eq es fs p q u f g =
     same_test (leads es p u) (leads fs q u) (λ e. of_leads fs q u (f (leads_of es p u e))) (λ e. of_leads es p u (g (leads_of fs q u e)))
 
 not_leads : (es : List Wire) (p u v : ℕ) → p ≤ v → v < u → Same es v u → leads es p u ≡ false
-not_leads es p u v h k q = elim (cases_Bool (leads es p u)) [ inl e ↦ absurd (leads_of es p u e v h k q) | inr e ↦ e ]
+not_leads es p u v h k q = false_from_ne_true (leads es p u) (λ e. leads_of es p u e v h k q)
 
 -- The parts between L and R that hold together with neither, where L and R count as joined.
 abbrev pub loose : List Wire → (L R : ℕ) → ℕ

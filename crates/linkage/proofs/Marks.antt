@@ -1,9 +1,9 @@
 -- Marks that spare what trimming keeps: the partial linkages are the same with them, what is kept is the same, and so is the sum
 -- over all linkages.
-use Rattle.std.proofs.Common.{◌≡◌, ℕ, zero, suc, ◌<◌, Bool, false, not, ◌&&◌, ◌||◌, ltb, ◌↔◌, List, [], ◌∷◌, map, length, get_or, sym, refl, ap, ◌∙◌, subst, ap₂, inl, inr, arith}
+use Rattle.std.proofs.Common.{◌≡◌, ℕ, zero, suc, ◌<◌, Bool, false, not, ◌&&◌, ◌||◌, ltb, ◌↔◌, List, [], ◌∷◌, map, length, get_or, sym, refl, ap, ◌∙◌, subst, ap₂, arith}
 use mathlib.Core.Path.{fun_ext}
 use Rattle.tally.specs.Semiring.{Semiring, Laws}
-use Rattle.std.proofs.lemmas.Bool.{both_ways, cases_Bool, not_from_false, not-true, or_from, or_parts}
+use Rattle.std.proofs.lemmas.Bool.{both_ways, false_from_ne_true, not_from_false, not-true, or_from, or_parts}
 use Rattle.linkage.specs.Lists.{◌∈◌, here, there, every, place_of, range, some_of}
 use Rattle.linkage.specs.Sentences.{Choice, Position, Sentence, asked, bare, choices, nowhere, position, size, takes, unstruck}
 use Rattle.linkage.specs.Linkages.{Linkage, Partial, Rising, Rules, after, before, choice_at, linkages}
@@ -126,7 +126,7 @@ module _ (s : Sentence) (m : ℕ → ℕ → Bool) where
 
   module _ (spares : Spares s m) where
     unmarked : (i k : ℕ) → used i k ∈ kept s → m i k ≡ false
-    unmarked i k n = elim (cases_Bool (m i k)) [ inl e ↦ absurd (spares i k e n) | inr e ↦ e ]
+    unmarked i k n = false_from_ne_true (m i k) (λ e. spares i k e n)
 
     pub in_partial : (x : Linkage) → Partial s x → Partial s' x
     in_partial x p =
@@ -141,6 +141,7 @@ module _ (s : Sentence) (m : ℕ → ℕ → Bool) where
         in_all_used s' u.at u.number (omega (arith, same_size))
         (in_unmarked u.at u.number h.0 h.1 (unmarked u.at u.number n))
 
+    -- This lemma and the next two are for the trim to come; nothing uses them yet. What is kept is the same with the marks.
     pub kept_marked : (u : Used) → (u ∈ kept s') ↔ (u ∈ kept s)
     kept_marked u = (kept_largest s (kept s') (of_closed (kept s') (kept_closed s')) u, kept_largest s' (kept s) closed u)
       where

@@ -1,7 +1,8 @@
 -- Membership: what stands in a list that is joined, mapped, gathered or filtered, when nothing stands twice there, and what
 -- tests over a list say.
 use Rattle.std.proofs.Common.{◌≡◌, ℕ, suc, ◌<◌, Bool, true, false, cond, not, eqb, ◌⊎◌, List, [], ◌∷◌, ◌++◌, map, length, sym, refl, ap, ◌∙◌, subst, ap₂, inl, inr, arith}
-use Rattle.std.proofs.lemmas.Bool.{and_from, and_parts, both_ways, cases_Bool, cond_both, cond-true, eq-eqb, eqb-false, eqb-true, false≢true, not_from_false, not-true, or_cases, or_left, or_right}
+use Rattle.std.proofs.lemmas.Bool.{and_from, and_parts, both_ways, cases_Bool, cond_both, cond-true, eq-eqb, eqb-false, eqb-true, false_from_ne_true, false≢true, not_from_false, not-true, or_cases, or_left, or_right}
+pub use Rattle.std.proofs.lemmas.List.Elements.{filter-append as filter_++}
 use Rattle.linkage.specs.Lists.{◌∈◌, here, there, Distinct, concatMap, every, filter, has, some_of}
 
 pub in_none : {A : Type 0} {a : A} → a ∈ [] → ⊥
@@ -87,14 +88,6 @@ pub filter_cong : {A : Type 0} (p q : A → Bool) (xs : List A) → ((x : A) →
 filter_cong p q [] h = refl
 filter_cong p q (x ∷ xs) h = ap₂ (λ b ys. cond b (x ∷ ys) ys) (h x (here refl)) (filter_cong p q xs (λ y m. h y (there m)))
 
-pub filter_++ : {A : Type 0} (p : A → Bool) (xs ys : List A) → filter p (xs ++ ys) ≡ filter p xs ++ filter p ys
-filter_++ p [] ys = refl
-filter_++ {A} p (x ∷ xs) ys = ap (λ zs. cond (p x) (x ∷ zs) zs) (filter_++ p xs ys) ∙ go (p x)
-  where
-    go : (b : Bool) → cond b (x ∷ (filter p xs ++ filter p ys)) (filter p xs ++ filter p ys) ≡ cond b (x ∷ filter p xs) (filter p xs) ++ filter p ys
-    go true = refl
-    go false = refl
-
 -- Lists in which nothing stands twice.
 pub distinct_++ : {A : Type 0} (xs ys : List A) → Distinct xs → Distinct ys → ((a : A) → a ∈ xs → a ∈ ys → ⊥) → Distinct (xs ++ ys)
 distinct_++ [] ys n m d = m
@@ -151,14 +144,14 @@ pub in_has : {j : ℕ} {xs : List ℕ} → j ∈ xs → has j xs ≡ true
 in_has {j} m = some_in (eqb j) m (eq-eqb j j refl)
 
 pub has_not : (j : ℕ) (xs : List ℕ) → (j ∈ xs → ⊥) → has j xs ≡ false
-has_not j xs d = elim (cases_Bool (has j xs)) [ inl e ↦ absurd (d (has_in j xs e)) | inr e ↦ e ]
+has_not j xs d = false_from_ne_true (has j xs) (λ e. d (has_in j xs e))
 
 -- A test that fails where something holds.
 pub not_of : (b : Bool) → not b ≡ true → b ≡ true → ⊥
 not_of b p q = both_ways b (not-true b p) q
 
 pub not_in : (b : Bool) → (b ≡ true → ⊥) → not b ≡ true
-not_in b h = elim (cases_Bool b) [ inl e ↦ absurd (h e) | inr e ↦ not_from_false b e ]
+not_in b h = not_from_false b (false_from_ne_true b h)
 
 -- Two tests that say yes together.
 pub same_test : (a b : Bool) → (a ≡ true → b ≡ true) → (b ≡ true → a ≡ true) → a ≡ b
@@ -169,10 +162,6 @@ same_test false false f g = refl
 -- Whether two numbers are equal, with the test that tells it.
 pub eqb_cases : (m n : ℕ) → ((m ≡ n) × (eqb m n ≡ true)) ⊎ ((m ≡ n → ⊥) × (eqb m n ≡ false))
 eqb_cases m n = elim (cases_Bool (eqb m n)) [ inl e ↦ inl (eqb-true m n e, e) | inr e ↦ inr (eqb-false m n e, e) ]
-
-pub nil_of : {A : Type 0} (xs : List A) → length xs ≡ 0 → xs ≡ []
-nil_of [] e = refl
-nil_of (x ∷ xs) e = absurd (omega arith)
 
 pub cons_of : {A : Type 0} (xs : List A) → (length xs ≡ 0 → ⊥) → (y : A) × (ys : List A) × (xs ≡ y ∷ ys)
 cons_of [] d = absurd (d refl)

@@ -1,7 +1,8 @@
 -- No piece is made twice.
-use Rattle.std.proofs.Common.{◌≡◌, ℕ, zero, suc, ◌+◌, ◌-◌, ◌<◌, ◌≤◌, cond, not, eqb, List, [], ◌∷◌, ◌++◌, map, length, sym, refl, ap, ◌∙◌, subst, ap₂, add-zero, add-suc, suc-add, arith}
-use mathlib.Core.List.{append_cancel_right, head-eq_of_cons-eq, tail-eq_of_cons-eq}
+use Rattle.std.proofs.Common.{◌≡◌, ℕ, zero, suc, ◌+◌, ◌-◌, ◌<◌, ◌≤◌, cond, not, eqb, List, [], ◌∷◌, ◌++◌, map, length, take, drop, sym, refl, ap, ◌∙◌, subst, ap₂, add-zero, add-suc, suc-add, arith}
+use mathlib.Core.List.{append_cancel_right}
 use mathlib.Core.Option.{none, some}
+use Rattle.std.proofs.Math.Seq.{drop-append_seam, take-append_seam}
 use Rattle.std.proofs.lemmas.Bool.{cond_both}
 use Rattle.linkage.specs.Inside.{Waiting}
 use Rattle.linkage.specs.Lists.{◌∈◌, here, Distinct, back, between, concatMap, empty, has, range}
@@ -45,11 +46,10 @@ unfolding unput first_choice
 put_one c c' x y e = (ap first_choice e, ap unput e)
 
 append_one : {A : Type 0} (us us' vs vs' : List A) → length us ≡ length us' → us ++ vs ≡ us' ++ vs' → (us ≡ us') × (vs ≡ vs')
-append_one [] [] vs vs' h e = (refl, e)
-append_one [] (u ∷ us') vs vs' h e = absurd (omega arith)
-append_one (u ∷ us) [] vs vs' h e = absurd (omega arith)
-append_one (u ∷ us) (u' ∷ us') vs vs' h e =
-    let r = append_one us us' vs vs' (omega arith) (tail-eq_of_cons-eq e) in (ap₂ ◌∷◌ (head-eq_of_cons-eq e) r.0, r.1)
+append_one us us' vs vs' h e = (
+  sym (take-append_seam us vs) ∙ ap₂ take h e ∙ take-append_seam us' vs',
+  sym (drop-append_seam us vs) ∙ ap₂ drop h e ∙ drop-append_seam us' vs',
+)
 
 glue_one : (c c' : Choice) (x x' y y' : Piece) → length x.1 ≡ length x'.1 → glue c x y ≡ glue c' x' y' → (x ≡ x') × (y ≡ y') × (c ≡ c')
 glue_one c c' x x' y y' h e =

@@ -2,12 +2,13 @@
 use Rattle.std.proofs.Common.{◌≡◌, ℕ, zero, suc, Bool, true, false, cond, eqb, ◌⊎◌, List, [], ◌∷◌, ◌++◌, map, sym, refl, ap, ◌∙◌, subst, ap₂, inl, inr}
 use mathlib.Core.Option.{none, some}
 use Rattle.std.proofs.lemmas.Bool.{eqb-true}
+use Rattle.lexicon.specs.Lexicon.{Disjunct, free}
 use Rattle.tally.specs.Semiring.{Semiring, Laws}
 use Rattle.linkage.specs.Inside.{Waiting, edge, factor, inner, inside, linked, opening, splits, to_left, when}
 use Rattle.linkage.specs.Lists.{◌∈◌, here, back, between, concatMap, empty}
 use Rattle.linkage.specs.Linkages.{Linkage}
 use Rattle.linkage.specs.Parts.{is_bare}
-use Rattle.linkage.specs.Sentences.{Choice, Sentence, bare, choices, lefts, rights, takes}
+use Rattle.linkage.specs.Sentences.{Choice, Position, Sentence, asked, bare, choices, lefts, position, rights, takes}
 use Rattle.linkage.specs.Sums.{sum}
 use Rattle.linkage.proofs.Members.{in_right, of_map}
 use Rattle.linkage.proofs.Regions.{Open, Piece, Valid, glue, link_end, put}
@@ -65,13 +66,10 @@ pub record Splits {V : Type 0} (t : Semiring V) (s : Sentence) (w : ℕ → ℕ 
       → is_bare c ≡ false → (W ∈ x.0) ⊎ (R ∈ y.0) → w L R (glue c x y) ≡ t.both (w L W x) (w W R y)
 
 -- A word that is linked is not bare.
-bare_left : (s : Sentence) (W : ℕ) (c : Choice) (q : List ℕ × ℕ) → back (lefts s W c) ≡ some q → is_bare c ≡ false
-bare_left s W bare q e = cc
-bare_left s W (takes k) q e = refl
-
-bare_right : (s : Sentence) (W : ℕ) (c : Choice) (q : List ℕ × ℕ) → back (rights s W c) ≡ some q → is_bare c ≡ false
-bare_right s W bare q e = cc
-bare_right s W (takes k) q e = refl
+linked_not_bare : (side : Disjunct ℕ → List ℕ) → side free ≡ [] → (p : Position) (c : Choice) (q : List ℕ × ℕ) → back (side (asked p c)) ≡ some q
+    → is_bare c ≡ false
+linked_not_bare side none_asked p bare q e = let none_back = ap back none_asked in cc
+linked_not_bare side none_asked p (takes k) q e = refl
 
 module _ {V : Type 0} (t : Semiring V) (laws : Laws t) (s : Sentence) (w : ℕ → ℕ → Piece → V) (sp : Splits t s w) where
   module _ (f : ℕ) (ih : (L R : ℕ) (l r : List ℕ) → sum t (w L R) (pieces s f L R l r) ≡ inside t s f L R l r) where
@@ -113,7 +111,7 @@ module _ {V : Type 0} (t : Semiring V) (laws : Laws t) (s : Sentence) (w : ℕ �
             let near = near_sound s f (sound s f) L W l m e d c h.0 eb q h.1 in
             let far = closed_sound s f (sound s f) W R (rights s W c) r y k in
             subst (λ (z : Piece). w L R (glue c z y) ≡ t.both (w L W z) (w W R y)) (sym h.2)
-            (sp.at_glue L W R (l ++ (e ∷ [])) (lefts s W c) (rights s W c) r c (link_end W h.0) y near far (bare_left s W c (m, d) eb) (inl (in_right h.0.0 (here refl))))
+            (sp.at_glue L W R (l ++ (e ∷ [])) (lefts s W c) (rights s W c) r c (link_end W h.0) y near far (linked_not_bare (λ d. d.left) refl (position s W) c (m, d) eb) (inl (in_right h.0.0 (here refl))))
 
         go : (b : Bool) → s.matches e d ≡ b → sum t (w L R) (keep b (pairs (glue c) xs ys)) ≡ when t b (t.both (inside t s f L W l m) v)
         go false q = refl
@@ -128,7 +126,7 @@ module _ {V : Type 0} (t : Semiring V) (laws : Laws t) (s : Sentence) (w : ℕ �
         (λ x y p i.
         let k = of_linked s (pieces s f) W R (back (rights s W c)) (back r) y (subst (λ b. y ∈ linked_pieces s (pieces s f) W R (back (rights s W c)) b) (sym er) i) in
         let far : Valid s W R (rights s W c) r y = subst (Valid s W R (rights s W c) r) (sym k.is) (linked_sound s f (sound s f) W R (rights s W c) r y k) in
-        sp.at_glue L W R [] (lefts s W c) (rights s W c) r c x y (sound s f L W [] (lefts s W c) x p).valid far (bare_right s W c (k.p', k.c) k.p_is)
+        sp.at_glue L W R [] (lefts s W c) (rights s W c) r c x y (sound s f L W [] (lefts s W c) x p).valid far (linked_not_bare (λ d. d.right) refl (position s W) c (k.p', k.c) k.p_is)
         (inr (subst (λ (z : Piece). R ∈ z.0) (sym k.is) (in_right k.free.0 (here refl)))))
         ∙ ap₂ t.both (ih L W [] (lefts s W c)) (linked_sum W R (back (rights s W c)) (some q))
 

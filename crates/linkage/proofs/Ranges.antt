@@ -85,8 +85,7 @@ back_none {A} xs e = go (snoc_cases xs)
     go : (xs ≡ []) ⊎ ((ys : List A) × (y : A) × (xs ≡ ys ++ (y ∷ []))) → xs ≡ []
     go (inl q) = q
     go (inr h) =
-        let bad : ◌≡◌ {A = Option (List A × A)} (some (h.0, h.1)) none = sym (back_snoc h.0 h.1) ∙ sym (ap back h.2) ∙ e in
-        let z : ◌≡◌ {A = ℕ} 0 1 = cc in absurd (omega arith)
+        let bad : ◌≡◌ {A = Option (List A × A)} (some (h.0, h.1)) none = sym (back_snoc h.0 h.1) ∙ sym (ap back h.2) ∙ e in cc
 
 pub back_some : {A : Type 0} (xs ys : List A) (y : A) → back xs ≡ some (ys, y) → xs ≡ ys ++ (y ∷ [])
 back_some {A} xs ys y e = go (snoc_cases xs)

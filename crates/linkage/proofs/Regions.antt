@@ -1,10 +1,11 @@
 -- A piece of a linkage: what lies between two positions L and R, with the connectors of L and R that wait for it. Shown is how
 -- valid pieces are glued at a position W between, how they come apart there, and what a link between L and R changes.
 use Rattle.std.proofs.Common.{◌≡◌, ℕ, suc, ◌+◌, ◌<◌, ◌≤◌, true, List, [], ◌∷◌, ◌++◌, length, sym, refl, ap, ◌∙◌, subst, subst₂, append_assoc, arith, length-append}
+use Rattle.std.proofs.lemmas.List.{nil_from_length}
 use Rattle.linkage.specs.Lists.{◌∈◌, here}
 use Rattle.linkage.specs.Linkages.{Linkage, Rising}
 use Rattle.linkage.specs.Sentences.{Choice, Sentence, choices, lefts, rights}
-use Rattle.linkage.proofs.Members.{in_both, in_cons, in_none, in_one, in_right, nil_of}
+use Rattle.linkage.proofs.Members.{in_both, in_cons, in_none, in_one, in_right}
 use Rattle.linkage.proofs.Fits.{Fits, Need, Reach, Side, Span, ends, glue_fits, in_into, into, left_fits, link_fits, right_fits, side, unlink_fits}
 use Rattle.linkage.proofs.Rows.{Chosen, Rows, along_++, each_++, each_left, each_right, needs, needs_span, outs, outs_span, rising_below, rising_front, rising_in, rising_snoc, rising_up, rows_below, rows_up}
 
@@ -47,7 +48,19 @@ pub record Open (s : Sentence) (L R : ℕ) (l r : List ℕ) (x : Piece) : Type 0
 pub none_to : (s : Sentence) (L R : ℕ) (l : List ℕ) (x : Piece) → Valid s L R l [] x → (a : Side) → a ∈ sides s L l x → R ∈ a.to → ⊥
 none_to s L R l x v a m k =
     let e : length (into (sides s L l x) R) ≡ 0 = v.fits.full_in (R, []) (in_right (needs s (suc L) x.1) (here refl)) in
-    in_none (subst (λ z. a.pos ∈ z) (nil_of (into (sides s L l x) R) e) (in_into m k))
+    in_none (subst (λ z. a.pos ∈ z) (nil_from_length (into (sides s L l x) R) e) (in_into m k))
+
+-- The sides of a piece reach to R at most, and its needs are behind L.
+sides_span : (s : Sentence) (L R : ℕ) (l : List ℕ) (x : Piece) → Rising L (suc R) x.0 → Rows (suc R) (suc L) x.1 → Span (sides s L l x) L R
+sides_span s L R l x a b o m = in_cons m (λ o. (L ≤ o.pos) × ((j : ℕ) → j ∈ o.to → (o.pos < j) × (j ≤ R)))
+    (omega arith, λ j k. let q = rising_in L (suc R) a k in omega arith)
+    (λ o m. let h = outs_span s (suc R) (suc L) x.1 b o m in let u = h.0 in
+    (omega arith, λ j k. let q = rising_in o.pos (suc R) h.2 k in omega arith))
+
+wants_reach : (s : Sentence) (L R : ℕ) (r : List ℕ) (x : Piece) → suc L + length x.1 ≡ R → Reach (wants s L R r x) L R
+wants_reach s L R r x lx b i = in_both (needs s (suc L) x.1) i (λ b. (L < b.0) × (b.0 ≤ R))
+    (λ b i. let h = needs_span s (suc L) x.1 b i in let u = h.0 in let v = h.1 in (omega arith, omega arith))
+    (λ b i. in_one i (λ b. (L < b.0) × (b.0 ≤ R)) (omega arith, omega arith))
 
 module _ (s : Sentence) (L W R : ℕ) (l r : List ℕ) (c : Choice) (x y : Piece) (lx : suc L + length x.1 ≡ W) where
   abbrev p : List ℕ
@@ -67,29 +80,6 @@ module _ (s : Sentence) (L W R : ℕ) (l r : List ℕ) (c : Choice) (x y : Piece
       ∙ append_assoc (needs s (suc L) x.1) (needs s W (put c y)) ((R, r) ∷ [])
       ∙ sym (append_assoc (needs s (suc L) x.1) ((W, m) ∷ []) (wants s W R r y))
 
-  -- The bounds that gluing asks for.
-  left_span : Rising L (suc W) x.0 → Rows (suc W) (suc L) x.1 → Span (sides s L l x) L W
-  left_span a b o m = in_cons m (λ o. (L ≤ o.pos) × ((j : ℕ) → j ∈ o.to → (o.pos < j) × (j ≤ W)))
-      (omega arith, λ j k. let q = rising_in L (suc W) a k in omega arith)
-      (λ o m. let h = outs_span s (suc W) (suc L) x.1 b o m in let u = h.0 in
-      (omega arith, λ j k. let q = rising_in o.pos (suc W) h.2 k in omega arith))
-
-  right_span : Rising W (suc R) y.0 → Rows (suc R) (suc W) y.1 → Span (sides s W p y) W R
-  right_span a b o m = in_cons m (λ o. (W ≤ o.pos) × ((j : ℕ) → j ∈ o.to → (o.pos < j) × (j ≤ R)))
-      (omega arith, λ j k. let q = rising_in W (suc R) a k in omega arith)
-      (λ o m. let h = outs_span s (suc R) (suc W) y.1 b o m in let u = h.0 in
-      (omega arith, λ j k. let q = rising_in o.pos (suc R) h.2 k in omega arith))
-
-  left_reach : Reach (wants s L W m x) L W
-  left_reach b i = in_both (needs s (suc L) x.1) i (λ b. (L < b.0) × (b.0 ≤ W))
-      (λ b i. let h = needs_span s (suc L) x.1 b i in let u = h.0 in let v = h.1 in (omega arith, omega arith))
-      (λ b i. in_one i (λ b. (L < b.0) × (b.0 ≤ W)) (omega arith, omega arith))
-
-  right_reach : suc W + length y.1 ≡ R → Reach (wants s W R r y) W R
-  right_reach ly b i = in_both (needs s (suc W) y.1) i (λ b. (W < b.0) × (b.0 ≤ R))
-      (λ b i. let h = needs_span s (suc W) y.1 b i in let u = h.0 in let v = h.1 in (omega arith, omega arith))
-      (λ b i. in_one i (λ b. (W < b.0) × (b.0 ≤ R)) (omega arith, omega arith))
-
   pub glue_valid : Valid s L W l m x → Valid s W R p r y → c ∈ choices s W → Open s L R l r (glue c x y)
   glue_valid v w i =
       let ly = w.len in
@@ -103,7 +93,8 @@ module _ (s : Sentence) (L W R : ℕ) (l r : List ℕ) (c : Choice) (x y : Piece
           chosen = each_++ _ (suc L) x.1 (put c y) v.chosen (subst (λ k. Chosen s k (put c y)) (sym lx) (i, w.chosen));
           fits = subst₂ (Fits s.matches) (sym sides_glue) (sym wants_glue)
               (glue_fits s.matches (sides s L l x) (sides s W p y) (wants s L W m x) (wants s W R r y) L W R
-              (left_span v.row v.rows) (right_span w.row w.rows) left_reach (right_reach ly) v.fits w.fits);
+              (sides_span s L W l x v.row v.rows) (sides_span s W R p y w.row w.rows)
+              (wants_reach s L W m x lx) (wants_reach s W R r y ly) v.fits w.fits);
         };
         free = λ k. let h = rising_in L (suc W) v.row k in omega arith;
       }
@@ -129,7 +120,7 @@ module _ (s : Sentence) (L W R : ℕ) (l r : List ℕ) (c : Choice) (x y : Piece
           rows = rsx;
           chosen = each_left _ (suc L) x.1 (put c y) v.chosen;
           fits = left_fits s.matches (sides s L l x) (sides s W p y) (wants s L W m x) (wants s W R r y) L W R
-              (left_span rx rsx) (right_span rest.0 rest.1) left_reach (right_reach ly) fit;
+              (sides_span s L W l x rx rsx) (sides_span s W R p y rest.0 rest.1) (wants_reach s L W m x lx) (wants_reach s W R r y ly) fit;
         },
         record {
           len = ly;
@@ -137,7 +128,7 @@ module _ (s : Sentence) (L W R : ℕ) (l r : List ℕ) (c : Choice) (x y : Piece
           rows = rest.1;
           chosen = cho.1;
           fits = right_fits s.matches (sides s L l x) (sides s W p y) (wants s L W m x) (wants s W R r y) L W R
-              (left_span rx rsx) (right_span rest.0 rest.1) left_reach (right_reach ly) fit;
+              (sides_span s L W l x rx rsx) (sides_span s W R p y rest.0 rest.1) (wants_reach s L W m x lx) (wants_reach s W R r y ly) fit;
         },
         cho.0,
       )

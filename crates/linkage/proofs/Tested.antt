@@ -1,9 +1,9 @@
 -- The rules, the tests for them and the fitting of right sides and needs say the same of a linkage.
-use Rattle.std.proofs.Common.{◌≡◌, ℕ, zero, suc, ◌+◌, ◌<◌, Bool, true, cond, not, ◌&&◌, eqb, ltb, List, [], ◌∷◌, ◌++◌, length, get_or, sym, refl, ap, ◌∙◌, subst, ap₂, subst₂, inl, inr, add-zero, zero-add, arith}
+use Rattle.std.proofs.Common.{◌≡◌, ℕ, zero, suc, ◌+◌, ◌<◌, true, cond, not, ◌&&◌, eqb, ltb, List, [], ◌∷◌, ◌++◌, length, get_or, sym, refl, ap, ◌∙◌, subst, ap₂, subst₂, inl, inr, add-zero, zero-add, arith}
 use lib.ListN.{get_or-eq_default}
 use Rattle.std.proofs.lemmas.Bool.{and_from, and_parts, cases_lt, eq-eqb, eqb-true, lt-ltb, ltb-true}
 use Rattle.linkage.specs.Lists.{◌∈◌, every, falling, filter, has, place_of, range}
-use Rattle.linkage.specs.Linkages.{Linkage, Place, Rising, Rules, after, before, choice_at, crosses, full, keeps_rules, left_end, left_list, links, matching, right_end, right_list, uncrossed, unlinked}
+use Rattle.linkage.specs.Linkages.{Linkage, Place, Rising, Rules, after, before, choice_at, crosses, full, full_at, keeps_rules, left_list, links, matched, matching, right_end, right_list, uncrossed, unlinked}
 use Rattle.linkage.specs.Sentences.{Sentence, lefts, rights, size}
 use Rattle.linkage.proofs.Members.{every_in, every_of, filter_++, in_none, not_in, not_of}
 use Rattle.linkage.proofs.Ranges.{in_range, of_range}
@@ -23,30 +23,28 @@ of_crosses e f a b c =
     and_from (ltb e.0 f.0) (ltb f.0 e.1 && ltb e.1 f.1) (lt-ltb e.0 f.0 a)
     (and_from (ltb f.0 e.1) (ltb e.1 f.1) (lt-ltb f.0 e.1 b) (lt-ltb e.1 f.1 c))
 
--- The links of a linkage, by the rows.
-in_all_links : (x : Linkage) (i j : ℕ) → j ∈ after x i → (i, j) ∈ links x
-in_all_links x i j m = elim (cases_lt i (length x)) [
-  | inl h ↦ subst (λ k. ◌∈◌ {A = Wire} (k, j) (links x)) (zero-add i) (in_links 0 i x j h m)
+-- A row past the end is empty.
+row_there : (x : Linkage) (i j : ℕ) → j ∈ after x i → i < length x
+row_there x i j m = elim (cases_lt i (length x)) [
+  | inl h ↦ h
   | inr h ↦ absurd (in_none (subst (λ (p : Place). j ∈ p.after) (get_or-eq_default x unlinked h) m))
 ]
+
+-- The links of a linkage, by the rows.
+in_all_links : (x : Linkage) (i j : ℕ) → j ∈ after x i → (i, j) ∈ links x
+in_all_links x i j m = subst (λ k. ◌∈◌ {A = Wire} (k, j) (links x)) (zero-add i) (in_links 0 i x j (row_there x i j m) m)
 
 of_all_links : (x : Linkage) (e : Wire) → e ∈ links x → e.1 ∈ after x e.0
 of_all_links x e m = let k = of_links 0 x e m in subst (λ i. e.1 ∈ after x i) (sym (k.from ∙ zero-add k.k)) k.to
 
 module _ (s : Sentence) (x : Linkage) where
-  abbrev match_test : Wire → Bool
-  match_test e = s.matches (right_end s x e.0 e.1) (left_end s x e.0 e.1)
-
-  abbrev full_test : ℕ → Bool
-  full_test i = eqb (length (after x i)) (length (right_list s x i)) && eqb (length (before x i)) (length (left_list s x i))
-
   pub of_test : keeps_rules s x ≡ true → Rules s x
   of_test t =
       let a = and_parts (uncrossed x) (full s x && matching s x) t in
       let b = and_parts (full s x) (matching s x) a.1 in
       let counts : (i : ℕ) → i < size s → (length (after x i) ≡ length (right_list s x i)) × (length (before x i) ≡ length (left_list s x i)) = λ i h.
       let c = and_parts (eqb (length (after x i)) (length (right_list s x i))) (eqb (length (before x i)) (length (left_list s x i)))
-      (every_in full_test b.0 (in_range 0 (size s) i (omega arith) (omega arith))) in
+      (every_in (full_at s x) b.0 (in_range 0 (size s) i (omega arith) (omega arith))) in
       (eqb-true (length (after x i)) (length (right_list s x i)) c.0, eqb-true (length (before x i)) (length (left_list s x i)) c.1) in
       record {
         uncrossed = λ i j k m p q h₁ h₂ h₃.
@@ -55,7 +53,7 @@ module _ (s : Sentence) (x : Linkage) where
             (of_crosses (i, j) (k, m) h₁ h₂ h₃);
         full_right = λ i h. (counts i h).0;
         full_left = λ i h. (counts i h).1;
-        matching = λ i j m. every_in match_test b.1 (in_all_links x i j m);
+        matching = λ i j m. every_in (matched s x) b.1 (in_all_links x i j m);
       }
 
   pub in_test : Rules s x → keeps_rules s x ≡ true
@@ -65,11 +63,11 @@ module _ (s : Sentence) (x : Linkage) where
       not_in (crosses e f) (λ t. let c = crosses_of e f t in
       r.uncrossed e.0 e.1 f.0 f.1 (of_all_links x e p) (of_all_links x f q) c.0 c.1 c.2))))
       (and_from (full s x) (matching s x)
-      (every_of full_test (range 0 (size s)) (λ i m. let h = of_range 0 (size s) i m in
+      (every_of (full_at s x) (range 0 (size s)) (λ i m. let h = of_range 0 (size s) i m in
       and_from (eqb (length (after x i)) (length (right_list s x i))) (eqb (length (before x i)) (length (left_list s x i)))
       (eq-eqb (length (after x i)) (length (right_list s x i)) (r.full_right i (omega arith)))
       (eq-eqb (length (before x i)) (length (left_list s x i)) (r.full_left i (omega arith)))))
-      (every_of match_test (links x) (λ e m. r.matching e.0 e.1 (of_all_links x e m))))
+      (every_of (matched s x) (links x) (λ e m. r.matching e.0 e.1 (of_all_links x e m))))
 
 -- n numbers from i on, the largest first.
 falling_from : (i n : ℕ) → List ℕ
@@ -121,28 +119,21 @@ module _ (s : Sentence) (x : Linkage) where
       let r = of_along (λ i p. (i, lefts s i p.choice)) 0 x b m in
       (r.0, r.1, r.2 ∙ ap (λ k. (k, lefts s k (choice_at x r.0))) (zero-add r.0))
 
-  -- A row past the end is empty.
-  row_there : (i j : ℕ) → j ∈ after x i → i < length x
-  row_there i j m = elim (cases_lt i (length x)) [
-    | inl h ↦ h
-    | inr h ↦ absurd (in_none (subst (λ (p : Place). j ∈ p.after) (get_or-eq_default x unlinked h) m))
-  ]
-
   module _ (len : length x ≡ size s) where
     pub fits_rules : Rows (size s) 0 x → Fits s.matches (outs s 0 x) (needs s 0 x) → Rules s x
     fits_rules rows f = record {
       uncrossed = λ i j k m p q.
-          f.apart (side_of i) (side_of k) (in_outs i (row_there i j p)) (in_outs k (row_there k m q)) j m p q;
+          f.apart (side_of i) (side_of k) (in_outs i (row_there x i j p)) (in_outs k (row_there x k m q)) j m p q;
       full_right = λ i h. f.full_out (side_of i) (in_outs i (omega arith));
       full_left = λ j h. sym (ap length (into_before s x j)) ∙ f.full_in (j, left_list s x j) (in_needs j (omega arith));
       matching = λ i j m.
           subst (λ l. s.matches (right_end s x i j) (get_or (left_list s x j) (place_of i l) 0) ≡ true) (into_before s x j)
-          (f.agree (side_of i) (j, left_list s x j) (in_outs i (row_there i j m)) (in_needs j (reach i j m)) m);
+          (f.agree (side_of i) (j, left_list s x j) (in_outs i (row_there x i j m)) (in_needs j (reach i j m)) m);
     }
       where
         reach : (i j : ℕ) → j ∈ after x i → j < length x
         reach i j m =
-            let r = rising_in (0 + i) (size s) (each_at (λ i p. Rising i (size s) p.after) 0 i x rows (row_there i j m)) m in omega arith
+            let r = rising_in (0 + i) (size s) (each_at (λ i p. Rising i (size s) p.after) 0 i x rows (row_there x i j m)) m in omega arith
 
     pub rules_fits : Rules s x → Fits s.matches (outs s 0 x) (needs s 0 x)
     rules_fits r = record {

@@ -1,6 +1,7 @@
 -- The inside recursion gives, for a whole sentence, the sum over all its partial linkages; and so does every table that meets
 -- the region equations.
 use Rattle.std.proofs.Common.{◌≡◌, ℕ, zero, suc, ◌+◌, ◌<◌, ◌≤◌, Bool, true, false, cond, eqb, ◌⊎◌, List, [], ◌∷◌, length, sym, refl, ap, ◌∙◌, subst, ap₂, inl, inr, arith}
+use Rattle.std.proofs.lemmas.List.{nil_from_length}
 use mathlib.Core.Option.{none, some}
 use Rattle.std.proofs.lemmas.Bool.{eqb-false}
 use Rattle.tally.specs.Semiring.{Semiring, Laws}
@@ -10,7 +11,7 @@ use Rattle.linkage.specs.Linkages.{Linkage, Partial, linkages}
 use Rattle.linkage.specs.Parts.{bare_words, heads, null_links}
 use Rattle.linkage.specs.Sentences.{Choice, Sentence, choices, lefts, rights, size}
 use Rattle.linkage.specs.Sums.{power, total, weight}
-use Rattle.linkage.proofs.Members.{cons_of, in_both, in_concatMap, in_cons, in_left, in_map, in_one, nil_of}
+use Rattle.linkage.proofs.Members.{cons_of, in_both, in_concatMap, in_cons, in_left, in_map, in_one}
 use Rattle.linkage.proofs.Ranges.{of_between}
 use Rattle.linkage.proofs.Fits.{Fits, Need, Side, into_none}
 use Rattle.linkage.proofs.Rows.{Rows, needs, outs_span, rising_in, rising_up, rows_below, rows_up}
@@ -74,7 +75,7 @@ module _ (s : Sentence) (some_word : 0 < size s) where
     partial_open p =
         let rows = rows_of s (put c y) p in
         let f = rules_fits s (put c y) p.places p.rules in
-        let e : lefts s 0 c ≡ [] = nil_of (lefts s 0 c) (sym (f.full_in (0, lefts s 0 c) (here refl)) ∙ ap length (into_none O 0 (λ a m i.
+        let e : lefts s 0 c ≡ [] = nil_from_length (lefts s 0 c) (sym (f.full_in (0, lefts s 0 c) (here refl)) ∙ ap length (into_none O 0 (λ a m i.
         let h = outs_span s n 0 (put c y) rows a m in let q = rising_in a.pos n h.2 i in omega arith))) in
         let len : suc (length y.1) ≡ n = p.places in
         let fit : Fits s.matches O (wants s 0 n [] y) =

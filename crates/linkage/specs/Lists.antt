@@ -1,6 +1,8 @@
 -- What is said of lists: what stands in them, that nothing stands twice, and the lists of positions.
-use Rattle.std.specs.Prelude.{◌≡◌, ℕ, zero, suc, ◌-◌, Bool, true, false, cond, ◌&&◌, ◌||◌, List, [], ◌∷◌, ◌++◌, map, ◌==◌, nat_eq, refl}
+use Rattle.std.specs.Prelude.{◌≡◌, ℕ, zero, suc, ◌-◌, Bool, true, false, cond, List, [], ◌∷◌, ◌++◌, map, ◌==◌, nat_eq, refl}
 use Rattle.std.proofs.Math.Option.{Option, none, some}
+-- The library's words, by the names that the definitions of linkages use.
+pub use Rattle.std.specs.List.{filter, flat_map as concatMap, list_all as every, list_any as some_of}
 
 infixl 25 ◌∈◌
 pub data ◌∈◌ {A : Type 0} (a : A) : List A → Type 0 where
@@ -11,22 +13,6 @@ pub data ◌∈◌ {A : Type 0} (a : A) : List A → Type 0 where
 abbrev pub Distinct : {A : Type 0} → List A → Type 0
 Distinct [] = Unit {0}
 Distinct (x ∷ xs) = (x ∈ xs → ⊥) × Distinct xs
-
-abbrev pub concatMap : {A B : Type 0} → (A → List B) → List A → List B
-concatMap f [] = []
-concatMap f (x ∷ xs) = f x ++ concatMap f xs
-
-abbrev pub filter : {A : Type 0} → (A → Bool) → List A → List A
-filter p [] = []
-filter p (x ∷ xs) = cond (p x) (x ∷ filter p xs) (filter p xs)
-
-abbrev pub every : {A : Type 0} → (A → Bool) → List A → Bool
-every p [] = true
-every p (x ∷ xs) = p x && every p xs
-
-abbrev pub some_of : {A : Type 0} → (A → Bool) → List A → Bool
-some_of p [] = false
-some_of p (x ∷ xs) = p x || some_of p xs
 
 abbrev pub empty : {A : Type 0} → List A → Bool
 empty [] = true

@@ -15,7 +15,7 @@ impl Link {
     pub fn precedes(&self, other: &Link) -> bool
         ensures { result ≡ earlier (ends self.now) (ends other.now) }
     {
-        self.left < other.left || (self.left == other.left && self.right < other.right)
+        self < other
     }
 }
 

@@ -1,10 +1,13 @@
--- What each call answers and makes of the ledger, by the tables of the rows: where it is refused, and where it is accepted.
-use Rattle.std.proofs.Common.{◌≡◌, ℕ, ◌+◌, ◌-◌, ◌<◌, ◌≤◌, Bool, true, false, cond, not, ◌&&◌, ◌||◌, eqb, ltb, List, [], ◌∷◌, ◌++◌, length, get_or, take, set, Ok, Err, sym, refl, ap, ◌∙◌, ap₂, arith, take_all}
+-- What each call answers and makes of the ledger, by the entries of the rows: where it is refused, and where it is accepted.
+use Rattle.std.proofs.Common.{◌≡◌, ℕ, zero, suc, ◌-◌, ◌<◌, ◌≤◌, Bool, true, false, cond, not, ◌&&◌, ◌||◌, eqb, ltb, List, [], ◌∷◌, ◌++◌, length, map, take, set, Some, Ok, Err, sym, refl, ap, ◌∙◌, ap₂, arith, take_all}
 use mir.Val.{bool_byte}
-use Rattle.std.proofs.lemmas.List.{set-get_or, set_past}
-use Rattle.std.proofs.lemmas.Bool.{and_from, and_left, and_right, cond_above, cond_below, cond-false, cond-true, eq-eqb, le-ltb, lt-ltb, ne_eqb}
+use Rattle.std.specs.List.{slice_get}
+use Rattle.std.specs.Option.{ok_or}
+use Rattle.std.proofs.lemmas.List.{get_or-map, length-map, map-append, set_past, take-map}
+use Rattle.std.proofs.lemmas.Option.{get_or_from_slice_get, slice_get_within}
+use Rattle.std.proofs.lemmas.Bool.{and_from, cond_above, cond_below, cond-false, cond-true, lt-ltb}
 use Rattle.refusal.specs.declared.Refusal.{Refusal}
-use Rattle.refusal.specs.declared.Refusal.TheVariants.{FolioFull, NoWords, NoPosition, NoDisjunct}
+use Rattle.refusal.specs.declared.Refusal.TheVariants.{NoPosition, NoDisjunct}
 use Rattle.lexicon.specs.Lexicon.{Lexicon}
 use Rattle.linkage.specs.declared.call.Call.{Call}
 use Rattle.linkage.specs.declared.call.Call.TheVariants.{Add, Drop, Change, Strike, Allow}
@@ -12,13 +15,12 @@ use Rattle.linkage.specs.Ledgers.{Ledger, Row, found, fresh, most_words, row_at,
 use Rattle.linkage.specs.Lists.{filter, range}
 use Rattle.linkage.specs.Sentences.{unstruck}
 use Rattle.linkage.specs.Trims.{marked}
+use Rattle.rows.specs.declared.Entry.{Entry}
 use Rattle.rows.specs.declared.Rows.{Rows}
-use Rattle.rows.specs.Answers.{Answer, added, counted, dropped, if_known, if_there, standing_of, word_of}
+use Rattle.rows.specs.Answers.{Answer, counted, if_known, if_there, standing_of, word_of}
 use Rattle.rows.specs.Edits.{Edited, GoesOn}
 use Rattle.rows.specs.Sets.{members}
-use Rattle.rows.specs.Tables.{ledger_of, listed, marks_of, no_marks, row}
-use Rattle.rows.proofs.Listed.{length_listed, listed_at, listed_push, listed_set, listed_take}
-use Rattle.rows.proofs.Members.{empty}
+use Rattle.rows.specs.Tables.{ledger_of, marks_of, no_marks, nothing, row}
 
 -- One call more of a history.
 steps_more : (lex : Lexicon) (g : Ledger) (cs : List Call) (c : Call) →
@@ -33,181 +35,114 @@ module _ (lex : Lexicon) (r : Rows) (c : Call) where
   pub refused : {e : Refusal} → ledger_of r ≡ step lex (ledger_of r) c → Edited lex r r c (Err e)
   refused e = record { stepped = e; history = goes_on (ledger_of r) e; cleared = refl }
 
-  pub accepted : {s : Rows} {a : ℕ} → marks_of s ≡ no_marks → ledger_of s ≡ step lex (ledger_of r) c →
+  pub accepted : {s : Rows} {a : ℕ} → ledger_of s ≡ step lex (ledger_of r) c → marks_of s ≡ no_marks →
       Edited lex r s c (Ok a)
-  accepted {s} m e = record { stepped = e; history = goes_on (ledger_of s) e; cleared = m }
+  accepted {s} e m = record { stepped = e; history = goes_on (ledger_of s) e; cleared = m }
 
 byte : (b : Bool) → bool_byte b ≡ counted b
 byte true = refl
 byte false = refl
 
-abbrev with : ℕ → (ℕ → Bool) → Row
+abbrev pub with : ℕ → (ℕ → Bool) → Row
 with w f = record { word = w; struck = f }
 
-fresh_row : (w : ℕ) → row w 0 ≡ fresh w
-fresh_row w = ap (with w) empty
+-- A position that is looked up and is not there.
+pub is_missing : (es : List Entry) (p : ℕ) (e : Refusal) → Err e ≡ ok_or (slice_get es p) NoPosition → (length es ≤ p) × (e ≡ NoPosition)
+is_missing [] p e h = (omega arith, cc)
+is_missing (x ∷ es) zero e h = let z : ◌≡◌ {A = ℕ} 0 1 = cc in absurd (omega arith)
+is_missing (x ∷ es) (suc p) e h = let r = is_missing es p e h in (omega (arith, r.0), r.1)
+
+pub is_there : (es : List Entry) (p : ℕ) (e : Entry) → Ok e ≡ ok_or (slice_get es p) NoPosition → slice_get es p ≡ Some e
+is_there [] p e h = let z : ◌≡◌ {A = ℕ} 0 1 = cc in absurd (omega arith)
+is_there (x ∷ es) zero e h = let q : e ≡ x = cc in ap Some (sym q)
+is_there (x ∷ es) (suc p) e h = is_there es p e h
 
 module _ (r : Rows) where
-  abbrev n : ℕ
-  n = length (ledger_of r)
+  abbrev es : List Entry
+  es = r.entries.items
 
-  pub length_ledger : length (ledger_of r) ≡ r.len
-  length_ledger = let z = r.sized in length_listed r.len r.words r.struck (omega arith) (omega arith)
+  abbrev g : Ledger
+  g = ledger_of r
+
+  pub length_ledger : length g ≡ length es
+  length_ledger = length-map es row
 
   -- Add, at most words and below.
-  module _ (h : most_words ≤ r.len) where
-    at_most : most_words ≤ n
-    at_most = rw length_ledger h
+  pub still_full : (lex : Lexicon) (w : ℕ) → most_words ≤ length es → g ≡ step lex g (Add w)
+  still_full lex w h = cond_above (length g) most_words _ _ _ (rw length_ledger h) refl
 
-    pub full : Err FolioFull ≡ added (ledger_of r)
-    full = cond_above n most_words _ _ _ at_most refl
+  pub adds : (lex : Lexicon) (w : ℕ) (e : Entry) → length es < most_words → row e ≡ fresh w →
+      map row (es ++ (e ∷ [])) ≡ step lex g (Add w)
+  adds lex w e h f =
+      map-append row es (e ∷ []) ∙ ap (λ x. g ++ (x ∷ [])) f
+      ∙ cond_below (length g) most_words _ _ (rw length_ledger h)
 
-    pub still_full : (lex : Lexicon) (w : ℕ) → ledger_of r ≡ step lex (ledger_of r) (Add w)
-    still_full lex w = cond_above n most_words _ _ _ at_most refl
+  pub still_wordless : (lex : Lexicon) → length es ≡ 0 → g ≡ step lex g Drop
+  still_wordless lex h = let e = length_ledger in sym (take_all (length g - 1) g (omega arith))
 
-  module _ (h : r.len < most_words) where
-    room : n < most_words
-    room = rw length_ledger h
-
-    pub roomy : Ok (r.len + 1 - 1) ≡ added (ledger_of r)
-    roomy = let e = length_ledger in let k : r.len + 1 - 1 ≡ n = omega arith in ap Ok k ∙ cond_below n most_words _ _ room
-
-    pub adds : (lex : Lexicon) (w : ℕ) →
-        listed (r.len + 1) (set r.words r.len w) (set r.struck r.len 0) ≡ step lex (ledger_of r) (Add w)
-    adds lex w =
-        let z = r.sized in
-        listed_push r.len r.words r.struck w 0 (omega arith) (omega arith)
-        ∙ ap (λ x. ledger_of r ++ (x ∷ [])) (fresh_row w)
-        ∙ cond_below n most_words _ _ room
-
-  -- Drop, without words and with some.
-  module _ (h : r.len ≡ 0) where
-    pub wordless : Err NoWords ≡ dropped (ledger_of r)
-    wordless = sym (cond-true _ _ _ (eq-eqb n 0 (length_ledger ∙ h)))
-
-    pub still_wordless : (lex : Lexicon) → ledger_of r ≡ step lex (ledger_of r) Drop
-    still_wordless lex = let e = length_ledger in sym (take_all (n - 1) (ledger_of r) (omega arith))
-
-  pub drops : (lex : Lexicon) → listed (r.len - 1) r.words r.struck ≡ step lex (ledger_of r) Drop
-  drops lex =
-      listed_take (r.len - 1) r.len r.words r.struck (omega arith)
-      ∙ ap (λ k. take (k - 1) (ledger_of r)) (sym length_ledger)
+  pub drops : (lex : Lexicon) → map row (take (length es - 1) es) ≡ step lex g Drop
+  drops lex = sym (take-map row (length es - 1) es) ∙ ap (λ k. take (k - 1) g) (sym length_ledger)
 
   -- A disjunct that is not found is neither struck nor allowed.
-  module _ (lex : Lexicon) (p d : ℕ) (lacks : found lex (ledger_of r) p d ≡ false) where
-    pub not_struck : ledger_of r ≡ step lex (ledger_of r) (Strike p d)
+  module _ (lex : Lexicon) (p d : ℕ) (lacks : found lex g p d ≡ false) where
+    pub not_struck : g ≡ step lex g (Strike p d)
     not_struck = sym (cond-false _ _ _ lacks)
 
-    pub not_allowed : ledger_of r ≡ step lex (ledger_of r) (Allow p d)
+    pub not_allowed : g ≡ step lex g (Allow p d)
     not_allowed = sym (cond-false _ _ _ lacks)
 
-  -- A position that is not there.
-  module _ (p : ℕ) (h : r.len ≤ p) where
-    past : n ≤ p
-    past = rw length_ledger h
+  pub not_changed : (lex : Lexicon) (p w : ℕ) → length es ≤ p → g ≡ step lex g (Change p w)
+  not_changed lex p w h = sym (set_past g p (fresh w) (rw length_ledger h))
 
-    pub nowhere : (a : Answer) → Err NoPosition ≡ if_there (ledger_of r) p a
-    nowhere a = cond_above p n _ _ _ past refl
+  -- An entry that is there.
+  module _ (p : ℕ) (e : Entry) (here : slice_get es p ≡ Some e) where
+    within : p < length es
+    within = slice_get_within es p e here
 
-    pub nowhere_known : (lex : Lexicon) (d : ℕ) (a : Answer) → Err NoPosition ≡ if_known lex (ledger_of r) p d a
-    nowhere_known lex d a = cond_above p n _ _ _ past refl
+    row_there : row_at g p ≡ row e
+    row_there = get_or-map row es p e (fresh 0) within ∙ ap row (get_or_from_slice_get es p e e here)
 
-    pub not_changed : (lex : Lexicon) (w : ℕ) → ledger_of r ≡ step lex (ledger_of r) (Change p w)
-    not_changed lex w = sym (set_past (ledger_of r) p (fresh w) past)
+    somewhere : (a : Answer) → a ≡ if_there g p a
+    somewhere a = cond_below p (length g) _ _ (rw length_ledger within)
 
-    pub not_there : (lex : Lexicon) (d : ℕ) → found lex (ledger_of r) p d ≡ false
-    not_there lex d = and_left _ _ (le-ltb p n past)
+    pub word_there : Ok e.word ≡ word_of g p
+    word_there = ap (λ (x : Row). Ok x.word) (sym row_there) ∙ somewhere (Ok (row_at g p).word)
 
-  -- A position that is there.
-  module _ (p : ℕ) (h : p < r.len) where
-    within : p < n
-    within = rw length_ledger h
+    mark_there : marks_of r p ≡ members e.marked
+    mark_there = ap members (get_or-map (λ (x : Entry). x.marked) es p e nothing within ∙ ap (λ (x : Entry). x.marked) (get_or_from_slice_get es p e e here))
 
-    pub row_there : row_at (ledger_of r) p ≡ row (get_or r.words p 0) (get_or r.struck p 0)
-    row_there =
-        let z = r.sized in
-        listed_at r.len r.words r.struck p (fresh 0) h (omega arith) (omega arith)
+    pub stands : (lex : Lexicon) (f : ℕ → Bool) (m : ℕ) →
+        f ≡ (λ k. members e.struck k || members e.marked k) → m ≡ length (lex.disjuncts e.word) →
+        Ok (length (filter (λ k. not (f k)) (range 0 m))) ≡ standing_of lex g (marks_of r) p
+    stands lex f m u d =
+        ap₂ (λ h k. Ok (length (filter (λ i. not (h i)) (range 0 k)))) u d
+        ∙ ap₂ (λ x h. Ok (length (unstruck (marked (seen lex x) h)))) (sym row_there) (sym mark_there)
+        ∙ somewhere (Ok (length (unstruck (marked (seen lex (row_at g p)) (marks_of r p)))))
 
-    pub somewhere : (a : Answer) → a ≡ if_there (ledger_of r) p a
-    somewhere a = cond_below p n _ _ within
+    module _ (lex : Lexicon) (d : ℕ) (k : d < length (lex.disjuncts e.word)) where
+      known : d < length (lex.disjuncts (row_at g p).word)
+      known = rw row_there k
 
-    word_is : get_or r.words p 0 ≡ (row_at (ledger_of r) p).word
-    word_is = ap (λ (x : Row). x.word) (sym row_there)
+      -- What a call on a disjunct changes is counted by whether it was struck.
+      pub is_known : (f : Bool → Bool) (a : ℕ) (b : Bool) → a ≡ bool_byte b → b ≡ f (members e.struck d) →
+          Ok a ≡ if_known lex g p d (Ok (counted (f ((row_at g p).struck d))))
+      is_known f a b n t =
+          let answer : Answer = Ok (counted (f ((row_at g p).struck d))) in
+          ap Ok (n ∙ byte b ∙ ap counted (t ∙ ap (λ (x : Row). f (x.struck d)) (sym row_there)))
+          ∙ cond_below d (length (lex.disjuncts (row_at g p).word)) answer _ known
+          ∙ somewhere (cond (ltb d (length (lex.disjuncts (row_at g p).word))) answer (Err NoDisjunct))
 
-    pub word_there : Ok (get_or r.words p 0) ≡ word_of (ledger_of r) p
-    word_there = ap Ok word_is ∙ somewhere (Ok (row_at (ledger_of r) p).word)
+      is_found : found lex g p d ≡ true
+      is_found = and_from _ _ (lt-ltb p (length g) (rw length_ledger within)) (lt-ltb d (length (lex.disjuncts (row_at g p).word)) known)
 
-    pub changes : (lex : Lexicon) (w : ℕ) →
-        listed r.len (set r.words p w) (set r.struck p 0) ≡ step lex (ledger_of r) (Change p w)
-    changes lex w = listed_set r.len r.words r.struck p w 0 h ∙ ap (set (ledger_of r) p) (fresh_row w)
+      pub strikes : (f : ℕ → Bool) → f ≡ (λ i. eqb i d || members e.struck i) →
+          set g p (with e.word f) ≡ step lex g (Strike p d)
+      strikes f u =
+          ap (set g p) (ap (with e.word) u ∙ ap (with_strike d) (sym row_there))
+          ∙ sym (cond-true _ _ _ is_found)
 
-    -- One set of strikes is written.
-    writes : (s : ℕ) (x : Row) → row (get_or r.words p 0) s ≡ x →
-        listed r.len r.words (set r.struck p s) ≡ set (ledger_of r) p x
-    writes s x e =
-        ap (λ ws. listed r.len ws (set r.struck p s)) (sym (set-get_or r.words p 0))
-        ∙ listed_set r.len r.words r.struck p (get_or r.words p 0) s h
-        ∙ ap (set (ledger_of r) p) e
-
-    pub stands : (lex : Lexicon) (s m : ℕ) →
-        members s ≡ (λ k. members (get_or r.struck p 0) k || members (get_or r.marked p 0) k) →
-        m ≡ length (lex.disjuncts (get_or r.words p 0)) →
-        Ok (length (filter (λ k. not (members s k)) (range 0 m))) ≡ standing_of lex (ledger_of r) (marks_of r) p
-    stands lex s m e d =
-        ap₂ (λ f k. Ok (length (filter (λ i. not (f i)) (range 0 k)))) e d
-        ∙ ap (λ x. Ok (length (unstruck (marked (seen lex x) (marks_of r p))))) (sym row_there)
-        ∙ somewhere (Ok (length (unstruck (marked (seen lex (row_at (ledger_of r) p)) (marks_of r p)))))
-
-    module _ (lex : Lexicon) (d : ℕ) where
-      abbrev m : ℕ
-      m = length (lex.disjuncts (row_at (ledger_of r) p).word)
-
-      as_many : m ≡ length (lex.disjuncts (get_or r.words p 0))
-      as_many = ap (λ (x : Row). length (lex.disjuncts x.word)) row_there
-
-      module _ (k : length (lex.disjuncts (get_or r.words p 0)) ≤ d) where
-        none : m ≤ d
-        none = rw as_many k
-
-        pub unknown : (a : Answer) → Err NoDisjunct ≡ if_known lex (ledger_of r) p d a
-        unknown a = cond_above d m a _ _ none refl ∙ somewhere (cond (ltb d m) a (Err NoDisjunct))
-
-        pub not_known : found lex (ledger_of r) p d ≡ false
-        not_known = and_right _ _ (le-ltb d m none)
-
-      module _ (k : d < length (lex.disjuncts (get_or r.words p 0))) where
-        known : d < m
-        known = rw as_many k
-
-        -- What a strike changes is counted by whether the disjunct was struck.
-        pub is_known : (f : Bool → Bool) (a : ℕ) (b : Bool) → a ≡ bool_byte (f b) → b ≡ members (get_or r.struck p 0) d →
-            Ok a ≡ if_known lex (ledger_of r) p d (Ok (counted (f ((row_at (ledger_of r) p).struck d))))
-        is_known f a b e t =
-            let answer : Answer = Ok (counted (f ((row_at (ledger_of r) p).struck d))) in
-            ap Ok (e ∙ byte (f b) ∙ ap (λ x. counted (f x)) (t ∙ ap (λ (x : Row). x.struck d) (sym row_there)))
-            ∙ cond_below d m answer _ known
-            ∙ somewhere (cond (ltb d m) answer (Err NoDisjunct))
-
-        is_found : found lex (ledger_of r) p d ≡ true
-        is_found = and_from _ _ (lt-ltb p n within) (lt-ltb d m known)
-
-        pub strikes : (s : ℕ) → members s ≡ (λ i. eqb i d || members (get_or r.struck p 0) i) →
-            listed r.len r.words (set r.struck p s) ≡ step lex (ledger_of r) (Strike p d)
-        strikes s e =
-            writes s (with_strike d (row_at (ledger_of r) p))
-            (ap (with (get_or r.words p 0)) e ∙ ap (with_strike d) (sym row_there))
-            ∙ sym (cond-true _ _ _ is_found)
-
-        pub allows : (s : ℕ) → members s ≡ (λ i. not (eqb i d) && members (get_or r.struck p 0) i) →
-            listed r.len r.words (set r.struck p s) ≡ step lex (ledger_of r) (Allow p d)
-        allows s e =
-            writes s (without_strike d (row_at (ledger_of r) p))
-            (ap (with (get_or r.words p 0)) e ∙ ap (without_strike d) (sym row_there))
-            ∙ sym (cond-true _ _ _ is_found)
-
-  -- Drop with words gives the last.
-  pub last_there : (r.len ≡ 0 → ⊥) → Ok (get_or r.words (r.len - 1) 0) ≡ dropped (ledger_of r)
-  last_there h =
-      ap Ok (word_is (r.len - 1) (omega arith))
-      ∙ ap (λ k. Ok (row_at (ledger_of r) (k - 1)).word) (sym length_ledger)
-      ∙ sym (cond-false _ _ _ (ne_eqb n 0 (λ e. h (sym length_ledger ∙ e))))
+      pub allows : (f : ℕ → Bool) → f ≡ (λ i. not (eqb i d) && members e.struck i) →
+          set g p (with e.word f) ≡ step lex g (Allow p d)
+      allows f u =
+          ap (set g p) (ap (with e.word) u ∙ ap (without_strike d) (sym row_there))
+          ∙ sym (cond-true _ _ _ is_found)

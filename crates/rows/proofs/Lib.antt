@@ -1,3 +1,4 @@
 pub mod Calls
-pub mod Listed
+pub mod Lists
+pub mod Marks
 pub mod Members

@@ -1,9 +1,10 @@
 -- What a call that edits a folio leaves.
-use Rattle.std.specs.Prelude.{◌≡◌, ℕ, ◌<◌, false, List, [], ◌∷◌, ◌++◌, length, Ok, Err, Result, slice_index}
+use Rattle.std.specs.Prelude.{◌≡◌, ℕ, ◌<◌, false, List, [], ◌∷◌, ◌++◌, length, Some, Ok, Err, Result, slice_get}
 use Rattle.refusal.specs.declared.Refusal.{Refusal}
 use Rattle.lexicon.specs.Lexicon.{Lexicon}
 use Rattle.linkage.specs.declared.call.Call.{Call}
 use Rattle.linkage.specs.Ledgers.{Ledger, found, ledger, step}
+use Rattle.rows.specs.declared.Entry.{Entry}
 use Rattle.rows.specs.declared.Rows.{Rows}
 use Rattle.rows.specs.Answers.{Answer, if_known}
 use Rattle.rows.specs.Tables.{ledger_of, marks_of, no_marks}
@@ -22,7 +23,7 @@ pub record Edited (lex : Lexicon) (before after : Rows) (call : Call) (answer : 
   pub history : GoesOn lex (ledger_of before) (ledger_of after) call
   pub cleared : Cleared before after answer
 
--- What is found where a disjunct is looked for: that the tables have it, or why the ledger does not.
-abbrev pub Finds : {A : Type 0} → Lexicon → Rows → (position disjunct : ℕ) → Result A Refusal → Type 0
-Finds lex r p d (Ok a) = (p < r.len) × (d < length (lex.disjuncts (slice_index r.words p)))
+-- What is found where a disjunct is looked for: the entry that has it, or why the ledger does not.
+abbrev pub Finds : Lexicon → Rows → (position disjunct : ℕ) → Result Entry Refusal → Type 0
+Finds lex r p d (Ok e) = (slice_get r.entries.items p ≡ Some e) × (d < length (lex.disjuncts e.word))
 Finds lex r p d (Err e) = (found lex (ledger_of r) p d ≡ false) × ((a : Answer) → Err e ≡ if_known lex (ledger_of r) p d a)

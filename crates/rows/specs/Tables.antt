@@ -1,30 +1,29 @@
--- What the tables of a folio stand for: its ledger, and which disjuncts are marked.
-use Rattle.std.specs.Prelude.{ℕ, zero, suc, Bool, false, List, [], ◌∷◌, slice_index}
+-- What the entries of a folio's rows stand for: its ledger, and which disjuncts are marked.
+use Rattle.std.specs.Prelude.{ℕ, Bool, false, map, slice_index_or}
 use Rattle.lexicon.specs.Lexicon.{Lexicon}
 use Rattle.linkage.specs.Ledgers.{Ledger, Row, sentence}
 use Rattle.linkage.specs.Sentences.{Sentence}
+use Rattle.rows.specs.declared.Entry.{Entry}
 use Rattle.rows.specs.declared.Rows.{Rows}
+use Rattle.rows.specs.declared.sets.DisjunctSet.{DisjunctSet}
 use Rattle.rows.specs.Sets.{members}
 
-abbrev pub row : (word struck : ℕ) → Row
-row w s = record { word = w; struck = members s }
-
--- The first rows of the two tables, as many as are in use.
-unfoldable pub listed : (len : ℕ) (words struck : List ℕ) → Ledger
-listed zero ws ss = []
-listed (suc n) [] ss = []
-listed (suc n) (w ∷ ws) [] = []
-listed (suc n) (w ∷ ws) (s ∷ ss) = row w s ∷ listed n ws ss
+abbrev pub row : Entry → Row
+row e = record { word = e.word; struck = members e.struck }
 
 abbrev pub ledger_of : Rows → Ledger
-ledger_of r = listed r.len r.words r.struck
+ledger_of r = map row r.entries.items
 
 abbrev pub sentence_of : Lexicon → Rows → Sentence
 sentence_of lex r = sentence lex (ledger_of r)
 
+-- Past the end nothing is marked.
+abbrev pub nothing : DisjunctSet
+nothing = record { bits = 0 }
+
 -- Whether a disjunct at a position is marked.
 abbrev pub marks_of : Rows → (position disjunct : ℕ) → Bool
-marks_of r p = members (slice_index r.marked p)
+marks_of r p = members (slice_index_or (map (λ (e : Entry). e.marked) r.entries.items) p nothing)
 
 abbrev pub no_marks : (position disjunct : ℕ) → Bool
 no_marks p d = false

@@ -1,13 +1,28 @@
-ghost use Rattle.std.specs.Prelude.{◌≡◌, []};
+ghost use Rattle.std.specs.Prelude.{◌≡◌, ◌<◌, [], length, slice_set};
 ghost use Rattle.lexicon.specs.Lexicon.{Lexicon};
 ghost use Rattle.linkage.specs.declared.call.Call.TheVariants.{Add, Drop, Change, Strike, Allow};
+ghost use Rattle.linkage.specs.Ledgers.{fresh};
 ghost use Rattle.rows.specs.Answers.{added, changed, dropped, newly_allowed, newly_struck};
 ghost use Rattle.rows.specs.Edits.{Edited, Finds};
-ghost use Rattle.rows.specs.Tables.{ledger_of, marks_of, no_marks};
+ghost use Rattle.rows.specs.Tables.{ledger_of, marks_of, no_marks, row};
 
-use crate::{MOST, Rows, UNMARKED, sets};
+use crate::sets::DisjunctSet;
+use crate::{Entry, Rows};
+use arrayvec::ArrayVec;
 use lexicon::dictionary::Dictionary;
 use refusal::Refusal;
+
+impl Entry {
+    /// A word with nothing struck and nothing marked.
+    fn fresh(word: u16) -> Entry
+        ensures { row result ≡ fresh word }
+    {
+        Entry {
+            word,
+            ..Entry::default()
+        }
+    }
+}
 
 impl Rows {
     /// Rows without a word.
@@ -16,11 +31,28 @@ impl Rows {
         ensures marks { marks_of result ≡ no_marks }
     {
         Rows {
-            words: [0; MOST],
-            struck: [sets::NONE; MOST],
-            marked: UNMARKED,
-            len: 0,
+            entries: ArrayVec::new(),
         }
+    }
+
+    /// Takes every mark off.
+    fn clear_marks(&mut self)
+        ensures ledger { ledger_of self.new ≡ ledger_of self.old }
+        ensures marks { marks_of self.new ≡ no_marks }
+    {
+        for entry in self.entries.iter_mut() {
+            entry.marked = DisjunctSet::default();
+        }
+    }
+
+    /// Puts another entry at a position, and takes every mark off.
+    fn put(&mut self, position: usize, entry: Entry)
+        requires { position < length self.old.entries.items }
+        ensures ledger { ledger_of self.new ≡ slice_set (ledger_of self.old) position (row entry) }
+        ensures marks { marks_of self.new ≡ no_marks }
+    {
+        self.entries[position] = entry;
+        self.clear_marks();
     }
 
     /// Puts a word last, with nothing struck, and gives its position.
@@ -28,14 +60,13 @@ impl Rows {
         ensures answer { result ≡ added (ledger_of self.old) }
         ensures edit { (lex : Lexicon) → Edited lex self.old self.new (Add word) result }
     {
-        if self.len >= MOST {
+        if self.entries.is_full() {
             return Err(Refusal::FolioFull);
         }
-        self.words[self.len] = word;
-        self.struck[self.len] = sets::NONE;
-        self.marked = UNMARKED;
-        self.len += 1;
-        Ok(self.len - 1)
+        let position = self.entries.len();
+        self.entries.push(Entry::fresh(word));
+        self.clear_marks();
+        Ok(position)
     }
 
     /// Takes the last word off, and gives it.
@@ -43,12 +74,9 @@ impl Rows {
         ensures answer { result ≡ dropped (ledger_of self.old) }
         ensures edit { (lex : Lexicon) → Edited lex self.old self.new Drop result }
     {
-        if self.len == 0 {
-            return Err(Refusal::NoWords);
-        }
-        self.len -= 1;
-        self.marked = UNMARKED;
-        Ok(self.words[self.len])
+        let last = self.entries.pop().ok_or(Refusal::NoWords)?;
+        self.clear_marks();
+        Ok(last.word)
     }
 
     /// Puts another word at a position, with nothing struck, and gives the old one.
@@ -56,32 +84,25 @@ impl Rows {
         ensures answer { result ≡ changed (ledger_of self.old) position }
         ensures edit { (lex : Lexicon) → Edited lex self.old self.new (Change position word) result }
     {
-        if position >= self.len {
-            return Err(Refusal::NoPosition);
-        }
-        let old = self.words[position];
-        self.words[position] = word;
-        self.struck[position] = sets::NONE;
-        self.marked = UNMARKED;
-        Ok(old)
+        let old = self.entry(position)?;
+        self.put(position, Entry::fresh(word));
+        Ok(old.word)
     }
 
-    /// Refuses a position that is not there, and then a disjunct that its word does not have.
+    /// What stands at a position, or why a disjunct is not found there: the position is not there, or its word does not have the disjunct.
     fn find<D: Dictionary>(
         &self,
         dictionary: &D,
         position: usize,
         disjunct: usize,
-    ) -> Result<(), Refusal>
+    ) -> Result<Entry, Refusal>
         ensures { Finds (D.meaning dictionary.now) self.now position disjunct result }
     {
-        if position >= self.len {
-            return Err(Refusal::NoPosition);
-        }
-        if disjunct >= dictionary.disjuncts(self.words[position]) {
+        let entry = self.entry(position)?;
+        if disjunct >= dictionary.disjuncts(entry.word) {
             return Err(Refusal::NoDisjunct);
         }
-        Ok(())
+        Ok(entry)
     }
 
     /// Strikes a disjunct, and gives how many strikes that set.
@@ -94,11 +115,10 @@ impl Rows {
         ensures answer { result ≡ newly_struck (D.meaning dictionary.now) (ledger_of self.old) position disjunct }
         ensures edit { Edited (D.meaning dictionary.now) self.old self.new (Strike position disjunct) result }
     {
-        self.find(dictionary, position, disjunct)?;
-        let struck = self.struck[position];
-        self.struck[position] = sets::insert(struck, disjunct);
-        self.marked = UNMARKED;
-        Ok(usize::from(!sets::contains(struck, disjunct)))
+        let mut entry = self.find(dictionary, position, disjunct)?;
+        let is_new = entry.struck.insert(disjunct);
+        self.put(position, entry);
+        Ok(usize::from(is_new))
     }
 
     /// Takes the strike off a disjunct, and gives how many strikes that cleared.
@@ -111,10 +131,9 @@ impl Rows {
         ensures answer { result ≡ newly_allowed (D.meaning dictionary.now) (ledger_of self.old) position disjunct }
         ensures edit { Edited (D.meaning dictionary.now) self.old self.new (Allow position disjunct) result }
     {
-        self.find(dictionary, position, disjunct)?;
-        let struck = self.struck[position];
-        self.struck[position] = sets::remove(struck, disjunct);
-        self.marked = UNMARKED;
-        Ok(usize::from(sets::contains(struck, disjunct)))
+        let mut entry = self.find(dictionary, position, disjunct)?;
+        let was_there = entry.struck.remove(disjunct);
+        self.put(position, entry);
+        Ok(usize::from(was_there))
     }
 }

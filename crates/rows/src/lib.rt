@@ -1,31 +1,31 @@
-//! The words of a sentence under work, in plain tables that hold no dictionary.
+//! The words of a sentence under work, in a plain list that holds no dictionary.
 //!
-//! - `edit`: the calls that change them, each lent the dictionary where it is needed.
+//! - `edit`: the calls that change them. The rows are to hold no dictionary, so where one is needed it is lent beside them.
 //! - `read`: what is asked of them.
-//! - `sets`: sets of disjuncts as numbers.
+//! - `sets`: sets of disjuncts.
 
 #![tactic(auto)]
 
-ghost use Rattle.std.specs.Prelude.{◌≡◌, ◌≤◌, length};
-ghost use Rattle.linkage.specs.Ledgers.{most_words};
+use arrayvec::ArrayVec;
+use sets::DisjunctSet;
 
 pub mod edit;
 pub mod read;
 mod sets;
 
 /// The most words that a folio holds.
-const MOST: usize = 40;
+pub const MOST_WORDS: usize = 40;
 
-/// The table of marks without a mark.
-const UNMARKED: [u64; MOST] = [sets::NONE; MOST];
+/// A position of a sentence under work: its word, and which of the word's disjuncts are struck and which are marked.
+#[derive(Clone, Copy, Default, PartialEq, Eq, Debug)]
+struct Entry {
+    word: u16,
+    struck: DisjunctSet,
+    marked: DisjunctSet,
+}
 
-/// The words of a sentence under work, and the sets of the disjuncts that are struck and that are marked at each position.
+/// The words of a sentence under work, each with the disjuncts that are struck and that are marked.
 #[derive(Drop)]
 pub struct Rows {
-    words: [u16; MOST],
-    struck: [u64; MOST],
-    marked: [u64; MOST],
-    len: usize,
-    ghost few: { len ≤ most_words },
-    ghost sized: { (length words ≡ most_words) × (length struck ≡ most_words) × (length marked ≡ most_words) },
+    entries: ArrayVec<Entry, MOST_WORDS>,
 }

@@ -1,56 +1,61 @@
-ghost use Rattle.std.specs.Prelude.{◌≡◌, ◌<◌, ◌≤◌, not, ◌&&◌, ◌||◌, length, ◌==◌};
+ghost use Rattle.std.specs.Prelude.{◌≡◌, ◌<◌, not, ◌&&◌, ◌||◌, length, ◌==◌};
 ghost use Rattle.linkage.specs.Lists.{filter, range};
 ghost use Rattle.rows.specs.Sets.{members};
-
-/// The set without a member.
-pub const NONE: u64 = 0;
 
 /// A set has so many bits.
 const BITS: usize = 64;
 
-/// What is in a set, and one more.
-pub fn insert(set: u64, disjunct: usize) -> u64
-    requires { disjunct < 64 }
-    ensures { members result ≡ (λ k. (k == disjunct) || members set k) }
-{
-    set | 1 << disjunct
+/// A set of the disjuncts of a word, by their numbers.
+#[derive(Clone, Copy, Default, PartialEq, Eq, Debug)]
+pub(crate) struct DisjunctSet {
+    bits: u64,
 }
 
-/// What is in a set, but one.
-pub fn remove(set: u64, disjunct: usize) -> u64
-    requires { disjunct < 64 }
-    ensures { members result ≡ (λ k. not (k == disjunct) && members set k) }
-{
-    set & !(1 << disjunct)
-}
-
-/// Whether a disjunct is in a set.
-pub fn contains(set: u64, disjunct: usize) -> bool
-    ensures { result ≡ members set disjunct }
-{
-    if disjunct >= BITS {
-        return false;
+impl DisjunctSet {
+    /// Puts a disjunct in, and tells whether it is new.
+    pub(crate) fn insert(&mut self, disjunct: usize) -> bool
+        requires { disjunct < 64 }
+        ensures is_new { result ≡ not (members self.old disjunct) }
+        ensures members { members self.new ≡ (λ k. (k == disjunct) || members self.old k) }
+    {
+        let before = *self;
+        self.bits = before.bits | 1 << disjunct;
+        !before.contains(disjunct)
     }
-    set >> disjunct & 1 == 1
-}
 
-/// What is in one of two sets or in both.
-pub fn union(one: u64, other: u64) -> u64
-    ensures { members result ≡ (λ k. members one k || members other k) }
-{
-    one | other
-}
+    /// Takes a disjunct out, and tells whether it was there.
+    pub(crate) fn remove(&mut self, disjunct: usize) -> bool
+        requires { disjunct < 64 }
+        ensures was_there { result ≡ members self.old disjunct }
+        ensures members { members self.new ≡ (λ k. not (k == disjunct) && members self.old k) }
+    {
+        let before = *self;
+        self.bits = before.bits & !(1 << disjunct);
+        before.contains(disjunct)
+    }
 
-/// How many of the first disjuncts are not in a set.
-pub fn count_outside(set: u64, disjuncts: usize) -> usize
-    requires { disjuncts ≤ 64 }
-    ensures { result ≡ length (filter (λ k. not (members set k)) (range 0 disjuncts)) }
-{
-    let mut count = 0;
-    for disjunct in 0..disjuncts {
-        if !contains(set, disjunct) {
-            count += 1;
+    /// Whether a disjunct is in the set.
+    pub(crate) fn contains(self, disjunct: usize) -> bool
+        ensures { result ≡ members self disjunct }
+    {
+        disjunct < BITS && self.bits >> disjunct & 1 == 1
+    }
+
+    /// What is in one of two sets or in both.
+    pub(crate) fn union(self, other: DisjunctSet) -> DisjunctSet
+        ensures { members result ≡ (λ k. members self k || members other k) }
+    {
+        DisjunctSet {
+            bits: self.bits | other.bits,
         }
     }
-    count
+
+    /// How many of the first disjuncts are not in the set.
+    pub(crate) fn count_outside(self, disjuncts: usize) -> usize
+        ensures { result ≡ length (filter (λ k. not (members self k)) (range 0 disjuncts)) }
+    {
+        (0..disjuncts)
+            .filter(|disjunct| !self.contains(*disjunct))
+            .count()
+    }
 }

@@ -1,4 +1,5 @@
 -- The four kinds keep the laws of a tally: the proofs that each hands over with its values. Assumes nothing.
+use Rattle.std.specs.Prelude.{None}
 use Rattle.std.proofs.Common.{arith, mul-one, mul-zero, mul_comm, rules}
 use Rattle.std.proofs.lemmas.Bool.Decides.{nat_tests}
 use Rattle.tally.specs.Semiring.{Laws}
@@ -7,13 +8,10 @@ use Rattle.tally.specs.Legal.{legal_tally}
 use Rattle.tally.specs.Ways.{ways_tally}
 use Rattle.tally.specs.Fewest.{fewest, fewest_tally}
 use Rattle.tally.specs.FewestWays.{fewest_ways, fewest_ways_tally}
-use Rattle.tally.specs.declared.fewest.Fewest.TheVariants as Links
-use Rattle.tally.specs.declared.fewest_ways.FewestWays.TheVariants.{Nothing}
 use Rattle.tally.specs.Same.{same_ways}
 use Rattle.tally.specs.Stops.{mul_around, mul_over}
 use Rattle.tally.specs.Sizes.{same_fewest, size_small, size_smaller, size_sum}
-use Rattle.tally.specs.Figures
-use Rattle.tally.specs.Figures.{bound, same_figures, size_fewer, count_fewer, size_together, count_together}
+use Rattle.tally.specs.Figures.{bound, count, same_figures, size_fewer, count_fewer, size_together, count_together}
 
 pub legal_laws : Laws legal_tally
 legal_laws = search rules
@@ -34,10 +32,10 @@ pub fewest_laws : Laws fewest_tally
 fewest_laws = record {
   either_comm = λ x y. same_fewest _ _ (simp size_smaller (omega arith));
   either_assoc = λ x y z. same_fewest _ _ (simp size_smaller (omega arith));
-  either_nothing = λ x. same_fewest _ _ (omega (arith, size_smaller x Links.Nothing, size_small x));
+  either_nothing = λ x. same_fewest _ _ (omega (arith, size_smaller x.links None, size_small x.links));
   both_comm = λ x y. same_fewest _ _ (simp size_sum (omega arith));
   both_assoc = λ x y z. same_fewest _ _ (simp size_sum (omega arith));
-  both_single = λ x. same_fewest _ _ (omega (arith, size_sum x (fewest 0), size_small x));
+  both_single = λ x. same_fewest _ _ (omega (arith, size_sum x.links (fewest 0).links, size_small x.links));
   both_nothing = λ x. same_fewest _ _ (simp size_sum (omega arith));
   both_either = λ x y z. same_fewest _ _ (simp (size_smaller, size_sum) (omega arith));
 }
@@ -48,20 +46,20 @@ fewest_ways_laws = record {
   either_assoc = λ x y z.
       same_figures _ _ (simp size_fewer (omega arith)) (simp (size_fewer, count_fewer) (grind (arith, nat_tests)));
   either_nothing = λ x.
-      let b = bound x in
-      same_figures _ _ (omega (arith, size_fewer x Nothing)) (simp count_fewer (grind (arith, nat_tests)));
+      let b = bound x.least in
+      same_figures _ _ (omega (arith, size_fewer x.least None)) (simp count_fewer (grind (arith, nat_tests)));
   both_comm = λ x y.
-      let e = mul_comm (Figures.count x) (Figures.count y) in
+      let e = mul_comm (count x.least) (count y.least) in
       same_figures _ _ (simp size_together (omega arith)) (simp count_together (grind (arith, nat_tests)));
   both_assoc = λ x y z.
-      let e = mul_around most (Figures.count x) (Figures.count y) (Figures.count z) in
+      let e = mul_around most (count x.least) (count y.least) (count z.least) in
       same_figures _ _ (simp size_together (omega arith)) (simp (size_together, count_together) (grind (arith, nat_tests)));
   both_single = λ x.
-      let b = bound x in let e = mul-one (Figures.count x) in
-      same_figures _ _ (omega (arith, size_together x (fewest_ways 0 1))) (simp count_together (grind (arith, nat_tests)));
-  both_nothing = λ x. same_figures _ _ (omega (arith, size_together x Nothing)) (simp count_together (grind (arith, nat_tests)));
+      let b = bound x.least in let e = mul-one (count x.least) in
+      same_figures _ _ (omega (arith, size_together x.least (fewest_ways 0 1).least)) (simp count_together (grind (arith, nat_tests)));
+  both_nothing = λ x. same_figures _ _ (omega (arith, size_together x.least None)) (simp count_together (grind (arith, nat_tests)));
   both_either = λ x y z.
-      let e = mul_over most (Figures.count x) (Figures.count y) (Figures.count z) in
+      let e = mul_over most (count x.least) (count y.least) (count z.least) in
       same_figures _ _ (simp (size_together, size_fewer) (omega arith))
       (simp (size_together, size_fewer, count_together, count_fewer) (grind (arith, nat_tests)));
 }

@@ -1,7 +1,9 @@
 //! Tallies: what is counted over the linkages of a sentence, each a commutative semiring with proved laws.
 //!
-//! - `legal`, `ways`, `fewest`, `fewest_ways`: the four kinds, each with its values and below it, in `tally`, how they are made, read
-//!   and joined.
+//! - `legal`, `ways`, `fewest`, `fewest_ways`: the four kinds, each with its values and how they are made, read and joined.
+//!
+//! Definitions that name a struct with a ghost field are imported in its `impl` blocks: the struct itself imports what stands at the
+//! top of its file.
 
 #![tactic(auto)]
 

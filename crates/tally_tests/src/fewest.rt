@@ -3,7 +3,7 @@ use tally::{Choosing, Tally, chosen};
 
 const LAST: u32 = u32::MAX - 1;
 
-const NONE: Fewest = Fewest::Nothing;
+const NONE: Fewest = Fewest::NOTHING;
 
 #[test]
 fn fixed_values(rt: HostRuntime) {

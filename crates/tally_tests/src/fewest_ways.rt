@@ -4,7 +4,7 @@ use tally::fewest_ways::FewestWays;
 
 const LAST: u32 = u32::MAX - 1;
 
-const NONE: FewestWays = FewestWays::Nothing;
+const NONE: FewestWays = FewestWays::NOTHING;
 
 #[test]
 fn fixed_values(rt: HostRuntime) {

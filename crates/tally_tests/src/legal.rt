@@ -14,7 +14,7 @@ fn fixed_values(rt: HostRuntime) {
         Legal::bare(),
     ];
     assert_eq!(rt; fixed, [NO, YES, NO, NO]);
-    assert_eq!(rt; [Legal::of(true), Legal::of(false)], [YES, NO]);
+    assert_eq!(rt; [Legal::from(true), Legal::from(false)], [YES, NO]);
     assert_eq!(rt; [YES.is_yes(), NO.is_yes()], [true, false]);
     assert_eq!(rt; [YES.is_nothing(), NO.is_nothing()], [false, true]);
 }

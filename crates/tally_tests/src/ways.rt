@@ -4,11 +4,11 @@ use tally::ways::Ways;
 const HALF: u64 = 1 << 32;
 
 fn sum(a: u64, b: u64) -> u64 {
-    Ways::of(a).either(Ways::of(b)).count()
+    Ways::from(a).either(Ways::from(b)).count()
 }
 
 fn product(a: u64, b: u64) -> u64 {
-    Ways::of(a).both(Ways::of(b)).count()
+    Ways::from(a).both(Ways::from(b)).count()
 }
 
 #[test]

@@ -1,6 +1,5 @@
 //! Written dictionaries: lines are taken into a draft over lent memory, and closing makes it a dictionary.
 //!
-//! - `pieces`: where the pieces of some bytes end that are cut at a mark.
 //! - `line`: a line's words and its formula.
 //! - `page`: the lent table, and writing to it.
 //! - `front`: the names that the front of a table has.
@@ -19,4 +18,3 @@ pub mod line;
 pub mod matching;
 mod note;
 pub mod page;
-pub mod pieces;

@@ -1,6 +1,6 @@
-ghost use Rattle.std.specs.Prelude.{◌≡◌, true, false, [], length, count_by, MatchResult};
+ghost use Rattle.std.specs.Prelude.{◌≡◌, ◌<◌, true, false, [], length, count_by, MatchResult};
 ghost use Rattle.refusal.specs.declared.Refusal.TheVariants.{LineForm};
-ghost use Rattle.written.specs.Lines.{pieces, words_part, formula_part, good_word, good_line, every, any_known};
+ghost use Rattle.written.specs.Lines.{lines, pieces, words_part, formula_part, good_word, good_line, every, any_known};
 ghost use Rattle.written.specs.Matching.{same};
 ghost use Rattle.written.specs.Store.{word_cells};
 
@@ -44,6 +44,13 @@ pub fn split<'a>(line: &'a [u8]) -> Result<Parts<'a>, Refusal>
         return Err(Refusal::LineForm);
     }
     Ok(Parts { words, formula })
+}
+
+/// A text without the line feed that ends its last line: cut at its line feeds, it gives the lines.
+pub fn unended(text: &[u8]) -> &[u8]
+    ensures { 0 < length text.now → pieces 10 result.now ≡ lines text.now }
+{
+    text.strip_suffix(b"\n").unwrap_or(text)
 }
 
 /// How often a word stands among some words.

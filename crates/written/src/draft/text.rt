@@ -1,20 +1,13 @@
-ghost use Rattle.std.specs.Prelude.{◌≡◌, ◌<◌, List, ◌++◌, length};
+ghost use Rattle.std.specs.Prelude.{◌≡◌, List, ◌++◌};
 ghost use Rattle.std.specs.Result.{result_err};
 ghost use Rattle.written.specs.Drafts.{OneNumber, book, cells_of, drafted, texted};
-ghost use Rattle.written.specs.Lines.{lines, pieces};
+ghost use Rattle.written.specs.Lines.{lines};
 ghost use Rattle.written.specs.Model.{Named};
 ghost use Rattle.written.specs.Store.{model};
 
 use crate::draft::Draft;
+use crate::line::unended;
 use refusal::fault::Fault;
-
-/// A text without the line feed that ends its last line.
-fn unended(text: &[u8]) -> &[u8]
-    requires { 0 < length text.now }
-    ensures { pieces 10 result.now ≡ lines text.now }
-{
-    text.strip_suffix(b"\n").unwrap_or(text)
-}
 
 impl<'t> Draft<'t> {
     /// Takes a text line by line, up to the first that is refused; the lines before it stand.

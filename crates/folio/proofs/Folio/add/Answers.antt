@@ -1,5 +1,4 @@
-use mathlib.Core.Path.{refl}
 use Rattle.folio.proofs.Folio.add.Goals as goal
 
-pub returns : goal.returns
-returns g c = record { answer = c.add.ensures.answer; edit = c.add.ensures.edit _; dictionary = refl }
+pub returns-clause-edit : goal.returns-clause-edit
+returns-clause-edit g c = c.add.ensures.edit _

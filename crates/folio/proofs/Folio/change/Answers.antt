@@ -1,5 +1,4 @@
-use mathlib.Core.Path.{refl}
 use Rattle.folio.proofs.Folio.change.Goals as goal
 
-pub returns : goal.returns
-returns g c = record { answer = c.change.ensures.answer; edit = c.change.ensures.edit _; dictionary = refl }
+pub returns-clause-edit : goal.returns-clause-edit
+returns-clause-edit g c = c.change.ensures.edit _

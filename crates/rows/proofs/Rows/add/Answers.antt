@@ -1,18 +1,24 @@
+use Rattle.std.proofs.Common.{◌≡◌, length, map, sym, ap, ◌∙◌, arith}
+use Rattle.std.proofs.lemmas.Bool.{eqb-false, eqb-true}
 use Rattle.linkage.specs.declared.call.Call.TheVariants.{Add}
-use Rattle.rows.proofs.Calls.{accepted, adds, full, refused, roomy, still_full}
-use Rattle.rows.proofs.Members.{unmarked}
+use Rattle.rows.proofs.Calls.{accepted, adds, refused, still_full}
+use Rattle.rows.specs.Tables.{row}
 use Rattle.rows.proofs.Rows.add.Goals as goal
 
-pub returns-then-self-ge-MOST : goal.returns-then-self-ge-MOST
-returns-then-self-ge-MOST c =
+pub returns-then-is_full-clause-edit : goal.returns-then-is_full-clause-edit
+returns-then-is_full-clause-edit c =
     let r = c.args.self.now in
     let w = c.args.word in
-    let h = c.if-self-ge-MOST.true in
-    record { answer = full r h; edit = λ lex. refused lex r (Add w) (still_full r h lex w) }
+    let n = length r.entries.items in
+    let full : n ≡ 40 = eqb-true n 40 (sym c.is_full.ensures.value ∙ c.if-is_full.true) in
+    λ lex. refused lex r (Add w) (still_full r lex w (omega arith))
 
-pub returns : goal.returns
-returns c =
+pub returns-clause-edit : goal.returns-clause-edit
+returns-clause-edit c =
     let r = c.args.self.now in
     let w = c.args.word in
-    let h = c.if-self-ge-MOST.false in
-    record { answer = roomy r h; edit = λ lex. accepted lex r (Add w) (unmarked 40) (adds r h lex w) }
+    let n = length r.entries.items in
+    let room : n ≡ 40 → ⊥ = eqb-false n 40 (sym c.is_full.ensures.value ∙ c.if-is_full.false) in
+    let few = c.is_full.ensures.fits in
+    let e = c.fresh.result in
+    λ lex. accepted lex r (Add w) (c.clear_marks.ensures.ledger ∙ ap (map row) c.push.ensures.items ∙ adds r lex w e (omega arith) c.fresh.ensures) c.clear_marks.ensures.marks

@@ -1,20 +1,32 @@
+use Rattle.std.proofs.Common.{set, ap, ◌∙◌}
+use Rattle.std.proofs.lemmas.Result.{err_from_is_err_and}
+use Rattle.std.proofs.lemmas.Option.{slice_get_within}
 use Rattle.linkage.specs.declared.call.Call.TheVariants.{Change}
-use Rattle.rows.proofs.Calls.{accepted, changes, not_changed, nowhere, refused, word_there}
-use Rattle.rows.proofs.Members.{unmarked}
+use Rattle.rows.proofs.Calls.{accepted, is_missing, is_there, not_changed, refused, word_there}
+use Rattle.rows.specs.Tables.{ledger_of}
 use Rattle.rows.proofs.Rows.change.Goals as goal
 
-pub returns-then-position-self : goal.returns-then-position-self
-returns-then-position-self c =
+pub returns-in_err-old-clause-edit : goal.returns-in_err-old-clause-edit
+returns-in_err-old-clause-edit c =
     let r = c.args.self.now in
     let p = c.args.position in
     let w = c.args.word in
-    let h = c.if-position-self.true in
-    record { answer = nowhere r p h _; edit = λ lex. refused lex r (Change p w) (not_changed r p h lex w) }
+    let past = is_missing r.entries.items p _ c.in_err-old.ensures in
+    let e = err_from_is_err_and c.from_residual.result c.from_residual.ensures.1 in
+    rw e.1 (λ lex. refused lex r (Change p w) (not_changed r lex p w past.0))
 
-pub returns : goal.returns
-returns c =
+pub put-requires : goal.put-requires
+put-requires c =
     let r = c.args.self.now in
-    let p = c.args.position in
+    slice_get_within r.entries.items c.args.position c.in_ok-old.old (is_there r.entries.items c.args.position c.in_ok-old.old c.in_ok-old.ensures)
+
+pub returns-clause-answer : goal.returns-clause-answer
+returns-clause-answer c =
+    let r = c.args.self.now in
+    word_there r c.args.position c.in_ok-old.old (is_there r.entries.items c.args.position c.in_ok-old.old c.in_ok-old.ensures)
+
+pub returns-clause-edit : goal.returns-clause-edit
+returns-clause-edit c =
+    let r = c.args.self.now in
     let w = c.args.word in
-    let h = c.if-position-self.false in
-    record { answer = word_there r p h; edit = λ lex. accepted lex r (Change p w) (unmarked 40) (changes r p h lex w) }
+    λ lex. accepted lex r (Change c.args.position w) (c.put.ensures.ledger ∙ ap (set (ledger_of r) c.args.position) c.fresh.ensures) c.put.ensures.marks

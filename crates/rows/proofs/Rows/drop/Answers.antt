@@ -1,16 +1,25 @@
+use Rattle.std.proofs.Common.{◌≡◌, IsSome, inl, inr, length, map, Err, IfNone, subst, sym, ap, ◌∙◌, arith}
+use Rattle.std.proofs.lemmas.Bool.{cases_lt, false≢true}
+use Rattle.std.proofs.lemmas.Result.{err_from_is_err_and}
 use Rattle.linkage.specs.declared.call.Call.TheVariants.{Drop}
-use Rattle.rows.proofs.Calls.{accepted, drops, last_there, refused, still_wordless, wordless}
-use Rattle.rows.proofs.Members.{unmarked}
+use Rattle.rows.proofs.Calls.{accepted, drops, refused, still_wordless}
+use Rattle.rows.specs.Edits.{Edited}
+use Rattle.rows.specs.Tables.{row}
 use Rattle.rows.proofs.Rows.drop.Goals as goal
 
-pub returns-then-self-eq0 : goal.returns-then-self-eq0
-returns-then-self-eq0 c =
+pub returns-in_err-last-clause-edit : goal.returns-in_err-last-clause-edit
+returns-in_err-last-clause-edit c =
     let r = c.args.self.now in
-    let h = c.if-self-eq0.true in
-    record { answer = wordless r h; edit = λ lex. refused lex r Drop (still_wordless r h lex) }
+    let none = c.in_err-last.ensures.ok_part in
+    let same : c.pop.new.self ≡ r.entries = subst (λ o. IfNone o (c.pop.new.self ≡ r.entries)) none c.pop.ensures.empty in
+    let wordless : length r.entries.items ≡ 0 = elim (cases_lt 0 (length r.entries.items)) [
+      | inl h ↦ absurd (false≢true (subst IsSome none (c.pop.ensures.variant.1 h)))
+      | inr h ↦ omega arith
+    ] in
+    let e = err_from_is_err_and c.from_residual.result c.from_residual.ensures.1 in
+    rw e.1 (λ lex. subst (λ v. Edited lex r (record { entries = v }) Drop (Err e.0)) (sym same) (refused lex r Drop (still_wordless r lex wordless)))
 
-pub returns : goal.returns
-returns c =
+pub returns-clause-edit : goal.returns-clause-edit
+returns-clause-edit c =
     let r = c.args.self.now in
-    let h = c.if-self-eq0.false in
-    record { answer = last_there r h; edit = λ lex. accepted lex r Drop (unmarked 40) (drops r lex) }
+    λ lex. accepted lex r Drop (c.clear_marks.ensures.ledger ∙ ap (map row) c.pop.ensures.rest ∙ drops r lex) c.clear_marks.ensures.marks

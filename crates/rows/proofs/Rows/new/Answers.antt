@@ -1,8 +1,8 @@
-use Rattle.std.proofs.Common.{refl}
-use Rattle.rows.specs.Tables.{listed}
-use Rattle.rows.proofs.Members.{unmarked}
+use Rattle.std.proofs.Common.{[], ap, ◌∙◌, get_or}
+use Rattle.rows.specs.Sets.{members}
+use Rattle.rows.specs.Tables.{nothing}
+use Rattle.rows.proofs.Marks.{marks_in, none_marked}
 use Rattle.rows.proofs.Rows.new.Goals as goal
 
-pub returns : goal.returns
-unfolding listed
-returns c = record { ledger = refl; marks = unmarked 40 }
+pub returns-clause-marks : goal.returns-clause-marks
+returns-clause-marks c = ap (λ es p. members (get_or (marks_in es) p nothing)) c.new.ensures ∙ none_marked []

@@ -1,20 +1,9 @@
-use Rattle.std.proofs.Common.{◌≤◌, [], sym, refl, ◌∙◌, arith}
-use Rattle.linkage.proofs.Joins.{labels_tell}
-use Rattle.filing.proofs.Merged.{heads_apart}
+use Rattle.std.proofs.Common.{arith}
+use Rattle.filing.proofs.Held.{holds_none}
 use Rattle.filing.proofs.joins.Joins.apart.Goals as goal
 
-pub returns : goal.returns
-returns c =
-    let n = c.args.count in
-    let few : n ≤ 40 = c.requires in
-    let own = c.own_labels.ensures.1 in
-    record {
-      holds = record {
-        labels = λ u v h k. (
-          λ e. (labels_tell [] u v).0 (sym (own u (omega arith)) ∙ e ∙ own v (omega arith)),
-          λ j. own u (omega arith) ∙ (labels_tell [] u v).1 j ∙ sym (own v (omega arith)),
-        );
-        parts = sym (heads_apart n);
-      };
-      count = refl;
-    }
+pub returns-clause-holds : goal.returns-clause-holds
+returns-clause-holds c =
+    let xs = c.loop-label.labels.items in
+    let l = c.loop-label.invariant.0 in
+    holds_none xs c.args.count (omega arith) (λ u h. c.loop-label.invariant.1 u (omega arith))

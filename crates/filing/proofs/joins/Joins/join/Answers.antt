@@ -1,33 +1,22 @@
-use Rattle.std.proofs.Common.{ℕ, ◌≤◌, get_or, sym, refl, ◌∙◌, arith}
+use Rattle.std.proofs.Common.{◌∙◌, cond, eqb, map, get_or, sym, ap}
 use Rattle.linkage.specs.Links.{ends}
-use Rattle.filing.proofs.Merged.{parts_idle, parts_merged, says_idle, says_merged}
+use Rattle.filing.proofs.Held.{holds_idle, holds_merged}
 use Rattle.filing.proofs.joins.Joins.join.Goals as goal
 
-pub returns-then-old-new : goal.returns-then-old-new
-returns-then-old-new c =
-    let j = c.args.self.now in
-    let f : ℕ → ℕ = λ u. get_or j.labels u 0 in
-    let few : j.count ≤ 40 = j.few in
-    record {
-      holds = λ es h. record {
-        labels = says_merged j.count (ends c.args.link.now) es f c.requires.0 c.requires.1 h.labels
-            (λ u. get_or c.relabelled-self.result u 0) (λ u k. c.relabelled-self.ensures.1 u (omega arith));
-        parts =
-            let fewer = parts_merged j.count (ends c.args.link.now) es f c.requires.0 c.requires.1 h.labels c.if-old-new.true in
-            let was = h.parts in
-            c.saturating_sub-self.ensures ∙ omega arith;
-      };
-      count = refl;
-    }
+pub returns-then-old-new-clause-holds : goal.returns-then-old-new-clause-holds
+returns-then-old-new-clause-holds c =
+    let e = ends c.args.link.now in
+    let right = ap (λ ls. get_or ls e.1 0) c.deref.ensures.0 in
+    let left = ap (λ ls. get_or ls e.0 0) c.deref-2.ensures.0 in
+    λ es h. holds_merged c.args.self.now e es c.requires.left c.requires.right h
+    (λ q. c.if-old-new.true (right ∙ q ∙ sym left))
+    c.relabel.new.labels c.saturating_sub-self.result
+    (c.relabel.ensures ∙ (λ i. map (λ l. cond (eqb l (right i)) (left i) l) (c.deref_mut.ensures.value i)))
+    c.saturating_sub-self.ensures
 
-pub returns-else-old-new : goal.returns-else-old-new
-returns-else-old-new c =
-    let j = c.args.self.now in
-    let f : ℕ → ℕ = λ u. get_or j.labels u 0 in
-    record {
-      holds = λ es h. record {
-        labels = says_idle j.count (ends c.args.link.now) es f c.requires.0 c.requires.1 h.labels c.if-old-new.false;
-        parts = h.parts ∙ sym (parts_idle j.count (ends c.args.link.now) es f c.requires.0 c.requires.1 h.labels c.if-old-new.false);
-      };
-      count = refl;
-    }
+pub returns-else-old-new-clause-holds : goal.returns-else-old-new-clause-holds
+returns-else-old-new-clause-holds c =
+    let e = ends c.args.link.now in
+    let right = ap (λ ls. get_or ls e.1 0) c.deref.ensures.0 in
+    let left = ap (λ ls. get_or ls e.0 0) c.deref-2.ensures.0 in
+    λ es h. holds_idle c.args.self.now e es c.requires.left c.requires.right h (sym right ∙ c.if-old-new.false ∙ left)

@@ -77,7 +77,7 @@ loop-before-preserved c =
     let now-d = c.line.new.self in
     let carried-here : carried (in_text (c.in-Some.before + 1)) c.line.result ≡ Ok c.in_ok-map_err.field-0 = search rules in
     let carry = subst (λ m. carried (in_text (m + 1)) c.line.result ≡ Ok c.in_ok-map_err.field-0) t.0 carried-here in
-    let same : ps ≡ ls = c.unended.ensures in
+    let same : ps ≡ ls = c.unended.ensures (search rules) in
     let more = left_more was.page now-d.page (n + 1) c.line.result c.in_ok-map_err.field-0 c.line.ensures.left carry in
     let inv = c.loop-before.invariant in
     rw length_push (
@@ -105,7 +105,7 @@ returns-in_err-map_err-clause-answer c =
     let y = c.in_err-map_err.field-0.0 in
     let carried-here : carried (in_text (c.in-Some.before + 1)) c.line.result ≡ Err y = search rules in
     let carry = subst (λ m. carried (in_text (m + 1)) c.line.result ≡ Err y) t.0 carried-here in
-    let same : ps ≡ ls = c.unended.ensures in
+    let same : ps ≡ ls = c.unended.ensures (search rules) in
     let eq = same_book was now-d (left_same was.page now-d.page (n + 1) c.line.result y c.line.ensures.left carry) in
     c.loop-before.invariant.1
     ∙ ap (λ qs. texted (cells_of was) (n + 1) (book was) (drop n qs)) (sym same)
@@ -120,7 +120,7 @@ returns-clause-answer c =
     let n = length c.loop-before.yielded in
     let t = YieldsList-end (YieldsList-from_enumerate (YieldsList-at {t = c.split-lines.result} (cc) (yields_pieces _ 10 c.unended.result.now (cc) (cc) (cc) (λ x b q k. search (rules, tests)))) (cc)) c.loop-before.yielded _ c.loop-before.yielded_by _ _ c.in-None.is c.next.ensures.steps in
     let l = length-enumerate_from 0 (pieces 10 c.unended.result.now) in
-    let same : length (pieces 10 c.unended.result.now) ≡ length (lines c.args.text.now) = ap length c.unended.ensures in
+    let same : length (pieces 10 c.unended.result.now) ≡ length (lines c.args.text.now) = ap length (c.unended.ensures (search rules)) in
     let d = c.loop-before.self in
     c.loop-before.invariant.1
     ∙ ap (texted (cells_of d) (n + 1) (book d)) (drop_all n (lines c.args.text.now) (omega (arith, t.1)))

@@ -1,0 +1,6 @@
+use Rattle.std.proofs.Common.{sym, ◌∙◌}
+use Rattle.filing.proofs.Filed.{uncrossed_is}
+use Rattle.filing.proofs.linked.Filing.is_uncrossed.Goals as goal
+
+pub returns : goal.returns
+returns g c = c.none_cross.ensures ∙ sym (uncrossed_is g.D.Dictionary.meaning c.args.self.now)
