@@ -3,7 +3,6 @@ pub mod Asked
 pub mod Added
 pub mod Blocks
 pub mod Costs
-pub mod Cuts
 pub mod Entered
 pub mod Found
 pub mod Fronts

@@ -1,20 +1,12 @@
 -- The words of a line: which of them stand twice or are known, how many bytes they have, and that they are bytes.
-use Rattle.std.proofs.Common.{◌≡◌, ℕ, zero, suc, ◌<◌, ◌≤◌, Bool, true, false, ◌&&◌, ◌||◌, eqb, List, [], ◌∷◌, ◌++◌, length, get_or, sym, refl, ap, ◌∙◌, ap₂, ⊎_elim, append_assoc, append-nil, arith}
+use Rattle.std.proofs.Common.{◌≡◌, ℕ, zero, suc, ◌<◌, Bool, true, false, ◌&&◌, ◌||◌, eqb, List, [], ◌∷◌, ◌++◌, get_or, sym, refl, ap, ◌∙◌, ap₂, ⊎_elim, append_assoc, append-nil, arith}
 use mathlib.Core.Bool.{or-false, or_assoc}
-use Rattle.std.specs.List.{AllByRecursion, position_or_len}
-use Rattle.std.proofs.lemmas.List.Sums.{position_or_len_is}
+use Rattle.std.specs.List.{AllByRecursion}
 use Rattle.std.proofs.ByRecursion.{All-from_get_or}
 use Rattle.std.proofs.lemmas.Bool.{eqb-true, eqb-false, eq-eqb, ne_eqb, cond_both, cases_Bool}
 use Rattle.written.specs.Lines.{onto, pieces, any_known, some_among}
 use Rattle.written.specs.Matching.{same}
 use Rattle.written.specs.Model.{among}
-use Rattle.written.proofs.Cuts.{ClearIn}
-
--- The first place of a mark, told by its neighbours.
-pub mark_place : (m : ℕ) (xs : List ℕ) (e : ℕ) → e ≤ length xs → ClearIn m xs 0 e → (e < length xs → get_or xs e 0 ≡ m) →
-    position_or_len (λ b. eqb b m) xs ≡ e
-mark_place m xs e to clear stops =
-    position_or_len_is (λ b. eqb b m) xs e 0 to (λ k l. ne_eqb (get_or xs k 0) m (clear k (omega arith) l)) (λ l. eq-eqb (get_or xs e 0) m (stops l))
 
 or_swap : (a b c d : Bool) → ((a || b) || (c || d)) ≡ ((a || c) || (b || d))
 or_swap true b c d = refl
