@@ -10,41 +10,56 @@ use Rattle.formula.specs.Tokens.{Name}
 use Rattle.written.specs.declared.page.Page.{Page}
 use Rattle.written.specs.Matching.{same}
 use Rattle.written.specs.Model.{Named, lookup, number_of, mentioned, renamed}
-use Rattle.written.specs.Pages.{Appended, limit, page_store, taken, with_cells}
-use Rattle.written.specs.Store.{Store, all_name_cells, connectors, heads, lent, name_cells, names_from, numbered, block_cells, third}
+use Rattle.written.specs.Pages.{Appended, Extended, extended, limit, page_store, taken}
+use Rattle.written.specs.Store.{Row, Store, all_name_cells, connectors, heads, lent, name_cells, names_from, numbered, block_cells, third}
 use Rattle.written.proofs.Blocks.{length_heads}
-use Rattle.written.proofs.Grown.{with_cells_none, with_cells_more}
+use Rattle.written.proofs.Lined.{with_cells}
 
-pub appended_none : (p : Page) → Appended p p []
-appended_none p = record { store = with_cells_none (page_store p); len = refl; used = omega arith; words = refl }
+pub extended_none : (p : Page) → Extended p p [] []
+extended_none p =
+    let s = page_store p in
+    let front = sym (append-nil s.front) in
+    let rows = sym (append-nil s.rows) in
+    record { store = λ i. record { front = front i; rows = rows i }; len = refl; used = omega arith; words = omega arith }
 
-pub appended_more : (p q r : Page) (xs ys : List ℕ) → Appended p q xs → Appended q r ys → Appended p r (xs ++ ys)
-appended_more p q r xs ys a b =
+-- What is added by two writes after each other.
+pub extended_more : (p q r : Page) (xs ys : List ℕ) (rs ss : List Row) → Extended p q xs rs → Extended q r ys ss →
+    Extended p r (xs ++ ys) (rs ++ ss)
+extended_more p q r xs ys rs ss a b =
     let n = length-append xs ys in
+    let m = length-append rs ss in
+    let s = page_store p in
+    let front = append_assoc s.front xs ys in
+    let rows = append_assoc s.rows rs ss in
     record {
-      store = with_cells_more (page_store p) (page_store q) (page_store r) xs ys a.store b.store;
+      store = b.store ∙ (ap (λ t. extended t ys ss) a.store ∙ (λ i. record { front = front i; rows = rows i }));
       len = b.len ∙ a.len;
       used = omega arith;
-      words = b.words ∙ a.words;
+      words = omega arith;
     }
+
+pub appended_more : (p q r : Page) (xs ys : List ℕ) → Appended p q xs → Appended q r ys → Appended p r (xs ++ ys)
+appended_more p q r xs ys = extended_more p q r xs ys [] []
 
 pub appended_as : (p q : Page) (xs ys : List ℕ) → xs ≡ ys → Appended p q xs → Appended p q ys
 appended_as p q xs ys e a = subst (Appended p q) e a
 
 -- The first cells stay while others are written behind them.
-pub first_kept : (p q : Page) (xs : List ℕ) (n : ℕ) → page_store q ≡ with_cells (page_store p) xs → n ≤ p.used → n ≤ q.used →
-    p.used ≤ length p.table.now → take n q.table.now ≡ take n p.table.now
+pub appended_kept : (p q : Page) (xs : List ℕ) (n : ℕ) → Appended p q xs → n ≤ p.used → p.used ≤ length p.table.now →
+    take n q.table.now ≡ take n p.table.now
 unfolding page_store
-first_kept p q xs n e h k l =
+appended_kept p q xs n a h l =
+    let u = a.used in
+    let k : n ≤ q.used = omega arith in
     let m = length-take-le p.used p.table.now l in
     let i : n ≤ length (take p.used p.table.now) = omega arith in
     sym (take-take n q.used q.table.now k)
-    ∙ (ap (λ (s : Store). take n s.front) e
+    ∙ (ap (λ (s : Store). take n s.front) a.store
     ∙ (take-append-le n (take p.used p.table.now) xs i ∙ take-take n p.used p.table.now h))
 
-pub appended_kept : (p q : Page) (xs : List ℕ) (n : ℕ) → Appended p q xs → n ≤ p.used → p.used ≤ length p.table.now →
-    take n q.table.now ≡ take n p.table.now
-appended_kept p q xs n a h l = let u = a.used in first_kept p q xs n a.store h (omega arith) l
+-- A page that has cells more, as a store.
+pub only_cells : (p q : Page) (xs : List ℕ) → Appended p q xs → page_store q ≡ with_cells (page_store p) xs
+only_cells p q xs a = a.store ∙ ap (λ rs. record { front = (page_store p).front ++ xs; rows = rs }) (append-nil (page_store p).rows)
 
 pub front_is : (p : Page) → take p.used p.table.now ≡ (page_store p).front
 unfolding page_store
@@ -58,7 +73,7 @@ pub record Adding (p q : Page) (left all : List ℕ) : Type 0 where
 
 module _ (p q : Page) (all : List ℕ) where
   pub adding_start : Adding p p all all
-  adding_start = record { done = []; adds = appended_none p; whole = refl }
+  adding_start = record { done = []; adds = extended_none p; whole = refl }
 
   module _ (left xs rest : List ℕ) (a : Adding p q left all) (e : left ≡ xs ++ rest) where
     pub adding_step : (r : Page) → Appended q r xs → Adding p r rest all
@@ -123,9 +138,6 @@ module _ (ns : List (Bor (List ℕ))) (i : ℕ) where
 module _ (g : Name → ℕ) (ns : List (Bor (List ℕ))) (i : ℕ) where
   pub list_next : (d : Bor (List ℕ)) → i < length ns → map g (drop i (lent ns)) ≡ g (get_or ns i d).now ∷ map g (drop (i + 1) (lent ns))
   list_next d h = ap (map g) (next_made (λ m. m.now) ns i d h)
-
-  pub list_last : length ns ≤ i → map g (drop i (lent ns)) ≡ []
-  list_last h = ap (map g) (none_made (λ m. m.now) ns i h)
 
 pub length_list : (g : Name → ℕ) (ns : List (Bor (List ℕ))) → length (map g (lent ns)) ≡ length ns
 length_list g ns = length-map (lent ns) g ∙ length-map ns (λ n. n.now)

@@ -1,7 +1,7 @@
 -- What the questions of a dictionary read from a table is what the store means.
-use Rattle.std.proofs.Common.{◌≡◌, ℕ, ◌+◌, ◌*◌, ◌<◌, ◌≤◌, Bool, true, false, cond, ◌&&◌, eqb, List, [], length, get_or, take, drop, Some, None, sym, refl, ap, ◌∙◌, ap₂, ⊎_elim, arith, length-take}
+use Rattle.std.proofs.Common.{◌≡◌, ℕ, ◌+◌, ◌*◌, ◌<◌, ◌≤◌, Bool, true, false, cond, ◌&&◌, eqb, List, [], length, get_or, take, drop, Some, None, sym, refl, ap, ◌∙◌, ap₂, ⊎_elim, arith}
 use Rattle.std.proofs.lemmas.List.{get_or_past, length-take-le, take-append-drop}
-use Rattle.std.proofs.lemmas.Bool.{and_left, and_right, cases_lt, ne_eqb}
+use Rattle.std.proofs.lemmas.Bool.{and_left, and_right, cases_lt}
 use Rattle.lexicon.specs.Lexicon.{Disjunct, free, side_of}
 use Rattle.lexicon.specs.declared.side.Side.{Side}
 use Rattle.lexicon.specs.declared.side.Side.TheVariants.{Left, Right}
@@ -109,13 +109,6 @@ module _ (T : List ℕ) (used words : ℕ) (roomy : taken used words ≤ limit T
           let c1 = front_cell T used (at + 1) (omega arith) in
           let c2 = front_cell T used (at + 2) (omega arith) in
           (omega arith, omega arith)
-
--- A number past the front is no name's.
-pub past_name : (T : List ℕ) (used p : ℕ) → used ≤ p → eqb (cell (take used T) p) MARK ≡ false
-past_name T used p h =
-    let n = length-take used T in
-    let e : cell (take used T) p ≡ 0 = get_or_past (take used T) p 0 (omega arith) in
-    ne_eqb (cell (take used T) p) MARK (λ f. omega arith)
 
 -- Which numbers match: those of two names that do, by the letters that were read.
 module _ (F : List ℕ) (r l : ℕ) where

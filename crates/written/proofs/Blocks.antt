@@ -15,9 +15,6 @@ pub record Stands (front : List ℕ) (a : ℕ) (xs : List ℕ) : Type 0 where
   pub is : front ≡ before ++ (xs ++ rest)
   pub place : length before ≡ a
 
-pub stands_here : (F xs G : List ℕ) → Stands (F ++ (xs ++ G)) (length F) xs
-stands_here F xs G = record { before = F; rest = G; is = refl; place = refl }
-
 module _ (front : List ℕ) where
   pub stands_within : (a : ℕ) (xs : List ℕ) → Stands front a xs → a + length xs ≤ length front
   stands_within a xs s =

@@ -1,5 +1,5 @@
 -- What words, names and connectors take, one by one and in all.
-use Rattle.std.proofs.Common.{◌≡◌, ℕ, suc, ◌+◌, ◌*◌, ◌≤◌, true, ◌&&◌, eqb, ltb, leb, List, [], ◌∷◌, ◌++◌, length, get_or, map, refl, sym, ap, ◌∙◌, mul-suc, arith, length-append, leb-true}
+use Rattle.std.proofs.Common.{◌≡◌, ℕ, suc, ◌+◌, ◌*◌, ◌≤◌, true, ◌&&◌, eqb, ltb, leb, List, [], ◌∷◌, ◌++◌, length, get_or, map, refl, sym, mul-suc, arith, length-append, leb-true}
 use denote.Ref.{Bor}
 use lib.ListN.{length-map}
 use Rattle.std.specs.List.{list_any, sum_by}
@@ -15,12 +15,6 @@ use Rattle.written.specs.Costs.{each_takes}
 use Rattle.written.specs.Lines.{every, good_word}
 use Rattle.written.specs.Model.{mentioned}
 use Rattle.written.specs.Store.{lent, word_cells}
-use Rattle.written.proofs.Noted.{mentioned_push}
-
-pub takes_push : (n : ℕ) (ws : List (List ℕ)) (w : List ℕ) → each_takes n (ws ++ (w ∷ [])) ≡ each_takes n ws + (n + length w)
-unfolding each_takes
-takes_push n [] w = omega arith
-takes_push n (v ∷ ws) w = let e = takes_push n ws w in omega arith
 
 pub takes_split : (n : ℕ) (ws : List (List ℕ)) → each_takes n ws ≡ n * length ws + length (word_cells ws)
 unfolding each_takes word_cells
@@ -43,12 +37,6 @@ takes_few (w ∷ ws) h =
     in let e = takes_few ws p.1
     in let f = length-append w (word_cells ws)
     in omega arith
-
-pub mentioned_count : (ds : List (Disjunct Name)) (d : Disjunct Name) →
-    length (mentioned (ds ++ (d ∷ []))) ≡ length (mentioned ds) + (length d.left + length d.right)
-mentioned_count ds d =
-    ap length (mentioned_push ds d) ∙ length-append (mentioned ds) (d.left ++ d.right)
-    ∙ ap (λ n. length (mentioned ds) + n) (length-append d.left d.right)
 
 -- Connectors are counted disjunct by disjunct, and the cells of names name by name.
 pub mentioned_sum : (ts : List Kept) → sum_by (λ (d : Kept). length d.left.items + length d.right.items) ts ≡ length (mentioned (map disjunct_of ts))

@@ -8,7 +8,9 @@ use Rattle.written.specs.Drafts.{Book, entered, with_words}
 use Rattle.refusal.specs.Faults.{of_line}
 use Rattle.written.specs.Lines.{any_known}
 use Rattle.written.specs.Model.{Entry}
-use Rattle.written.proofs.Finds.{words_of}
+
+abbrev pub words_of : List Entry → List (List ℕ)
+words_of es = map (λ (e : Entry). e.word) es
 
 module _ (lim : ℕ) (b : Book) (ws : List (List ℕ)) (ds : List Way) where
   entry : List ℕ → Entry

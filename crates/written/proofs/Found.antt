@@ -9,7 +9,7 @@ use Rattle.written.specs.Kept.{getD_counted, length_counted}
 use Rattle.written.specs.Matching.{same}
 use Rattle.written.specs.Model.{Entry, Named, among, find_from, lookup, number_of, no_entry}
 use Rattle.written.specs.Pages.{row_at, row_place, store}
-use Rattle.written.specs.Store.{MARK, Whole, WholeNames, WholeRow, cell, cells, counted, entry_of, model, name_at, names_from, no_row}
+use Rattle.written.specs.Store.{MARK, Whole, WholeRow, cell, cells, counted, entry_of, model, name_at, names_from, no_row}
 use Rattle.written.proofs.Fronts.{cells_kept}
 use Rattle.written.proofs.Known.{same_eq}
 
@@ -37,20 +37,6 @@ module _ (T : List ℕ) (used : ℕ) where
   front_cells l a n h =
       let m = length-take-le used T l in
       sym (cells_kept (take used T) (drop used T) a n (omega arith)) ∙ ap (λ f. cells f a n) (take-append-drop used T)
-
-  pub front_name : used ≤ length T → (p : ℕ) → p + 2 ≤ used → p + 2 + cell (take used T) (p + 1) ≤ used →
-      name_at (take used T) p ≡ cells T (p + 2) (cell T (p + 1))
-  front_name l p h k =
-      front_cells l (p + 2) (cell (take used T) (p + 1)) k ∙ ap (cells T (p + 2)) (front_cell (p + 1) (omega arith))
-
-  -- The name behind a mark.
-  pub mark_inside : used ≤ length T → WholeNames (take used T) → (p : ℕ) → p < used → cell T p ≡ MARK →
-      (p + 2 + cell T (p + 1) ≤ used) × (name_at (take used T) p ≡ cells T (p + 2) (cell T (p + 1)))
-  mark_inside l whole p h e =
-      let (a, m, b) = whole p (front_cell p h ∙ e) in
-      let n = length-take-le used T l in
-      let q = front_cell (p + 1) (omega arith) in
-      (omega arith, front_name l p (omega arith) (omega arith))
 
 -- The row of a word, and the word that it tells.
 module _ (T : List ℕ) (used words k : ℕ) (h : k < words) where

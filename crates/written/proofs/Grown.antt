@@ -1,17 +1,9 @@
 -- A page that is written to: a cell behind the front leaves the rows, and a row before the others leaves the front.
-use Rattle.std.proofs.Common.{◌≡◌, ℕ, zero, suc, ◌+◌, ◌-◌, ◌*◌, ◌<◌, ◌≤◌, min, ◌≢◌, List, [], ◌∷◌, ◌++◌, length, get_or, take, set, sym, ap, ◌∙◌, ap₂, append_assoc, append-nil, arith, length-set}
+use Rattle.std.proofs.Common.{◌≡◌, ℕ, zero, suc, ◌+◌, ◌-◌, ◌*◌, ◌<◌, ◌≤◌, min, ◌≢◌, List, [], ◌∷◌, ◌++◌, length, get_or, take, set, sym, ap, ◌∙◌, ap₂, append-nil, arith, length-set}
 use Rattle.std.proofs.lemmas.List.{take_more_set, take-set-le, get_or-set_same, get_or-set_other}
-use Rattle.written.specs.Pages.{limit, row_place, row_at, store, taken, with_cells, with_row}
-use Rattle.written.specs.Store.{Store, counted}
+use Rattle.written.specs.Pages.{limit, row_place, row_at, store, taken, extended}
+use Rattle.written.specs.Store.{counted}
 use Rattle.written.proofs.Renamed.{counted_same}
-
-pub with_cells_none : (s : Store) → s ≡ with_cells s []
-with_cells_none s = ap (λ f. record { front = f; rows = s.rows }) (sym (append-nil s.front))
-
--- Cells that are written one row behind another.
-pub with_cells_more : (s t u : Store) (xs ys : List ℕ) → t ≡ with_cells s xs → u ≡ with_cells t ys → u ≡ with_cells s (xs ++ ys)
-with_cells_more s t u xs ys d e =
-    e ∙ (ap (λ r. with_cells r ys) d ∙ ap (λ f. record { front = f; rows = s.rows }) (append_assoc s.front xs ys))
 
 pub counted_push : {A : Type 0} (f : ℕ → A) (k n m : ℕ) → k + n ≡ m → counted f k (suc n) ≡ counted f k n ++ (f m ∷ [])
 unfolding counted
@@ -32,11 +24,11 @@ rows_kept T U words n room same =
 
 module _ (T : List ℕ) (used words : ℕ) where
   pub cell_store : (c : ℕ) → taken used words < limit T →
-      store (set T used c) (used + 1) words ≡ with_cells (store T used words) (c ∷ [])
+      store (set T used c) (used + 1) words ≡ extended (store T used words) (c ∷ []) []
   cell_store c h =
       let front = take_more_set T used c (omega arith) in
       let rows = rows_kept T (set T used c) words (length-set T used c) (omega arith)
-      (λ j l. get_or-set_other T used j c 0 (λ e. omega arith))
+      (λ j l. get_or-set_other T used j c 0 (λ e. omega arith)) ∙ sym (append-nil (counted (row_at T) 0 words))
       in λ i. record { front = front i; rows = rows i }
 
   -- The row of the next word, whose cells begin at a place.
@@ -107,6 +99,6 @@ module _ (T : List ℕ) (used words : ℕ) where
         ∙ (counted_push (row_at U) 0 words words (omega arith) ∙ ap₂ (λ xs r. xs ++ (r ∷ [])) kept new_row)
 
     pub row_store : store (set (set (set (set T p a) (p + 1) b) (p + 2) c) (p + 3) 0) used (words + 1)
-        ≡ with_row (store T used words) (record { word = a; length_of = b; block = c })
+        ≡ extended (store T used words) [] (record { word = a; length_of = b; block = c } ∷ [])
     unfolding U U1 U2 U3
-    row_store = λ i. record { front = front_kept i; rows = rows_more i }
+    row_store = let front = front_kept ∙ sym (append-nil (take used T)) in λ i. record { front = front i; rows = rows_more i }

@@ -1,15 +1,13 @@
 -- A line that is written in three parts: what each part takes, that the front stays whole with the new names, and that the
 -- parts make the line.
-use Rattle.std.proofs.Common.{◌≡◌, ℕ, ◌+◌, ◌*◌, ◌≤◌, List, [], ◌∷◌, ◌++◌, length, sym, refl, ap, ◌∙◌, subst, arith, length-append, length-take-le}
-use Rattle.std.specs.List.{AllByRecursion}
+use Rattle.std.proofs.Common.{◌≡◌, ℕ, ◌+◌, ◌*◌, ◌≤◌, List, [], ◌∷◌, ◌++◌, length, refl, ap, ◌∙◌, arith, length-append, length-take-le}
 use Rattle.lexicon.specs.Lexicon.{Disjunct}
 use Rattle.formula.specs.Tokens.{Name}
 use Rattle.written.specs.declared.page.Page.{Page}
 use Rattle.written.specs.Costs.{each_takes}
 use Rattle.written.specs.Model.{fresh, mentioned}
-use Rattle.written.specs.Pages.{page_store, with_cells}
-use Rattle.written.specs.Store.{Store, all_name_cells, numbered, block_cells, word_cells, word_rows, with_line, names_of as store_names, WholeNames}
-use Rattle.written.proofs.Names.{NamedOk, sound_append, sound_names, sound_whole, whole_sound}
+use Rattle.written.specs.Pages.{page_store}
+use Rattle.written.specs.Store.{Store, all_name_cells, numbered, block_cells, word_cells, word_rows, with_line, names_of as store_names}
 
 -- Each name takes two cells and one for each byte, and each word a row and one for each byte.
 pub names_take : (ns : List Name) → each_takes 2 ns ≡ length (all_name_cells ns)
@@ -26,13 +24,9 @@ pub length_front : (p : Page) → p.used ≤ length p.table.now → length (page
 unfolding page_store
 length_front p h = length-take-le p.used p.table.now h
 
--- New names leave the front whole.
-pub whole_named : (s t : Store) (ns : List Name) → t ≡ with_cells s (all_name_cells ns) → AllByRecursion NamedOk ns → WholeNames s.front →
-    WholeNames t.front
-whole_named s t ns e ok w =
-    let sound = sound_append s.front (all_name_cells ns) (whole_sound s.front w) (sound_names ns ok) in
-    let f : t.front ≡ s.front ++ all_name_cells ns = ap (λ (u : Store). u.front) e in
-    subst WholeNames (sym f) (sound_whole (s.front ++ all_name_cells ns) sound)
+-- A store with cells more.
+abbrev pub with_cells : Store → List ℕ → Store
+with_cells s xs = record { front = s.front ++ xs; rows = s.rows }
 
 -- A line by its three parts.
 module _ (ws : List (List ℕ)) (ds : List (Disjunct Name)) where

@@ -9,11 +9,11 @@ use Rattle.std.specs.Slice.Iter.{split_rest, split_done, split_callee, split_ste
 use Rattle.std.proofs.lemmas.Bool.{cond-false}
 use Rattle.std.proofs.lemmas.Iterator.{YieldsList}
 use Rattle.std.proofs.lemmas.Iterator.Splits.{YieldsList-from_slice_split}
+use Rattle.std.proofs.lemmas.List.Splits.{length-slice_split}
 use Rattle.std.proofs.lemmas.List.{drop_more}
 use Rattle.std.proofs.lemmas.List.FromFn.{get_or-enumerate_from, length-enumerate_from}
 use Rattle.std.proofs.lemmas.List.Recursion.{same_from_clauses, is_count_by}
 use Rattle.written.specs.Lines.{lines, onto, pieces, every, some_among}
-use Rattle.written.specs.Matching.{same}
 use Rattle.written.specs.Model.{among}
 use Rattle.written.specs.Store.{word_cells}
 
@@ -28,6 +28,10 @@ pieces_split m (x ∷ xs) =
     ap (λ ps. cond (eqb x m) ([] ∷ ps) (onto_first x ps)) (pieces_split m xs)
     ∙ ap (cond (eqb x m) ([] ∷ pieces m xs)) (onto_same x (pieces m xs))
 
+-- Bytes have at least one piece.
+pub pieces_some : (m : ℕ) (xs : List ℕ) → 0 < length (pieces m xs)
+pieces_some m xs = let n = length-slice_split (λ b. eqb b m) xs in let e = ap length (pieces_split m xs) in omega arith
+
 -- A slice that is cut where a closure finds the mark gives the pieces.
 pub yields_pieces : {F : Type 0} {s : _} (g : Mut F (Bor ℕ × Unit {0}) Bool) (m : ℕ) {f : F} (xs : List ℕ) → split_rest s ≡ xs → split_done s ≡ false →
     split_callee s ≡ f → ((x : ℕ) (b : Bool) (q : F) → CalledAt g f x b q → (q ≡ f) × (b ≡ eqb x m)) →
@@ -38,10 +42,6 @@ yields_pieces g m xs r d c h =
 pub every_all : (p : List ℕ → Bool) (ws : List (List ℕ)) → every p ws ≡ list_all p ws
 unfolding every
 every_all p = same_from_clauses (every p) (list_all p) (λ w r. p w && r) refl (λ _ _. refl) (λ _ _. refl)
-
-pub among_any : (n : List ℕ) (ms : List (List ℕ)) → among n ms ≡ list_any (same n) ms
-unfolding among
-among_any n = same_from_clauses (among n) (list_any (same n)) (λ m r. same n m || r) refl (λ _ _. refl) (λ _ _. refl)
 
 pub some_any : (known ws : List (List ℕ)) → some_among known ws ≡ list_any (λ w. among w known) ws
 unfolding some_among

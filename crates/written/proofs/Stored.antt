@@ -1,9 +1,8 @@
 -- A store with a line more is whole again; it holds what it held and behind it the line's words with their disjuncts, and
 -- the names that were new.
 use Rattle.std.proofs.Common.{◌≡◌, ℕ, ◌^◌, ◌<◌, ◌≤◌, true, List, [], ◌++◌, map, length, get_or, sym, refl, ap, ◌∙◌, subst, ap₂, append_assoc, append-nil, arith, length-append}
-use lib.ListN.{length-map}
 use Rattle.std.specs.List.{AllByRecursion}
-use Rattle.std.proofs.lemmas.List.{map-append, get_or-map, get_or_past}
+use Rattle.std.proofs.lemmas.List.{map-append, get_or-map}
 use Rattle.std.proofs.ByRecursion.{All-append, All-weaker, All-get_or, All-from_get_or}
 use Rattle.lexicon.specs.declared.side.Side.{Side}
 use Rattle.lexicon.specs.Lexicon.{Disjunct, side_of, free}
@@ -29,12 +28,6 @@ module _ (s : Store) where
       ∙ renamed_back (name_at F) f (block_at F b)
       (asks_weaker (WholeName F) (λ p. f (name_at F p) ≡ p) (λ p n. number_known F whole.2 p n.1) (block_at F b)
       (block_named F b (whole.0 w h).1))
-
-  pub disjuncts_past : (w : ℕ) → length s.rows ≤ w → (lexicon (model s)).disjuncts w ≡ []
-  disjuncts_past w h =
-      let n = length-map s.rows (entry_of s.front) in
-      ap (λ (e : Entry). map (renamed (number_of (names_from 0 s.front))) e.disjuncts)
-      (get_or_past (map (entry_of s.front) s.rows) w no_entry (omega arith))
 
 -- The names that a line brings, and the front with them.
 abbrev new_names : Store → List (Disjunct Name) → List Name

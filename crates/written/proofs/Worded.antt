@@ -1,8 +1,9 @@
 -- A page to which words are added: their bytes at the front and their rows at the back.
 use Rattle.std.proofs.Common.{◌≡◌, ℕ, suc, ◌+◌, ◌*◌, ◌≤◌, List, [], ◌∷◌, ◌++◌, length, sym, refl, ap, ◌∙◌, append_assoc, append-nil, arith, length-append}
 use Rattle.written.specs.declared.page.Page.{Page}
-use Rattle.written.specs.Pages.{limit, page_store, taken, with_cells, with_row}
+use Rattle.written.specs.Pages.{Extended, limit, taken}
 use Rattle.written.specs.Store.{Row, word_cells, word_rows}
+use Rattle.written.proofs.Added.{extended_more}
 
 pub length_rows : (at b : ℕ) (ws : List (List ℕ)) → length (word_rows at b ws) ≡ length ws
 unfolding word_rows
@@ -13,30 +14,11 @@ length_rows at b (w ∷ ws) = ap suc (length_rows (at + length w) b ws)
 pub record Worded (p q : Page) (b : ℕ) (left all : List (List ℕ)) : Type 0 where
   pub cells : List ℕ
   pub rows : List Row
-  pub store : page_store q ≡ record { front = (page_store p).front ++ cells; rows = (page_store p).rows ++ rows }
-  pub len : length q.table.now ≡ length p.table.now
-  pub used : q.used ≡ p.used + length cells
-  pub words : q.words ≡ p.words + length rows
+  pub adds : Extended p q cells rows
   pub all_cells : cells ++ word_cells left ≡ word_cells all
   pub all_rows : rows ++ word_rows q.used b left ≡ word_rows p.used b all
 
 module _ (p : Page) (b : ℕ) (all : List (List ℕ)) where
-  pub worded_start : (left : List (List ℕ)) → left ≡ all → Worded p p b left all
-  worded_start left e =
-      let s = page_store p in
-      let front = sym (append-nil s.front) in
-      let rows = sym (append-nil s.rows) in
-      record {
-        cells = [];
-        rows = [];
-        store = λ i. record { front = front i; rows = rows i };
-        len = refl;
-        used = omega arith;
-        words = omega arith;
-        all_cells = ap word_cells e;
-        all_rows = ap (word_rows p.used b) e;
-      }
-
   module _ (q : Page) (left rest : List (List ℕ)) (w : List ℕ) (a : Worded p q b left all) (e : left ≡ w ∷ rest) where
     cells_left : a.cells ++ (w ++ word_cells rest) ≡ word_cells all
     unfolding word_cells
@@ -55,35 +37,24 @@ module _ (p : Page) (b : ℕ) (all : List (List ℕ)) where
         in let n : length a.rows + suc (length (word_rows (q.used + length w) b rest)) ≡ length (word_rows p.used b all) =
         simp length-append at (ap length rows_left)
         in let k = length_rows p.used b all in
-        omega (arith, a)
+        let u = a.adds in
+        omega arith
 
-    pub worded_step : (r : Page) → page_store r ≡ with_row (with_cells (page_store q) w) (record { word = q.used; length_of = length w; block = b }) →
-        length r.table.now ≡ length q.table.now → r.used ≡ q.used + length w → r.words ≡ q.words + 1 →
-        Worded p r b rest all
-    worded_step r f l u n =
+    pub worded_step : (r : Page) → Extended q r w (record { word = q.used; length_of = length w; block = b } ∷ []) → Worded p r b rest all
+    worded_step r h =
         let row : Row = record { word = q.used; length_of = length w; block = b } in
-        let s = page_store p in
-        let front = append_assoc s.front a.cells w in
-        let back = append_assoc s.rows a.rows (row ∷ []) in
-        let c = length-append a.cells w in
-        let d = length-append a.rows (row ∷ []) in
         record {
           cells = a.cells ++ w;
           rows = a.rows ++ (row ∷ []);
-          store = f ∙ (ap (λ t. with_row (with_cells t w) row) a.store ∙ (λ i. record { front = front i; rows = back i }));
-          len = l ∙ a.len;
-          used = omega (arith, a.used);
-          words = omega (arith, a.words);
+          adds = extended_more p q r a.cells w a.rows (row ∷ []) a.adds h;
           all_cells = append_assoc a.cells w (word_cells rest) ∙ cells_left;
           all_rows = append_assoc a.rows (row ∷ []) (word_rows r.used b rest)
-              ∙ (ap (λ k. a.rows ++ (row ∷ word_rows k b rest)) u ∙ rows_left);
+              ∙ (ap (λ k. a.rows ++ (row ∷ word_rows k b rest)) h.used ∙ rows_left);
         }
 
-  module _ (q : Page) (left : List (List ℕ)) (a : Worded p q b left all) (e : left ≡ []) where
-    pub cells_all : a.cells ≡ word_cells all
-    unfolding word_cells
-    cells_all = sym (append-nil a.cells) ∙ (ap (λ ws. a.cells ++ word_cells ws) (sym e) ∙ a.all_cells)
-
-    pub rows_all : a.rows ≡ word_rows p.used b all
-    unfolding word_rows
-    rows_all = sym (append-nil a.rows) ∙ (ap (λ ws. a.rows ++ word_rows q.used b ws) (sym e) ∙ a.all_rows)
+  pub worded_end : (q : Page) (left : List (List ℕ)) → Worded p q b left all → left ≡ [] → Extended p q (word_cells all) (word_rows p.used b all)
+  unfolding word_cells word_rows
+  worded_end q left a e =
+      let cells : a.cells ≡ word_cells all = sym (append-nil a.cells) ∙ (ap (λ ws. a.cells ++ word_cells ws) (sym e) ∙ a.all_cells) in
+      let rows : a.rows ≡ word_rows p.used b all = sym (append-nil a.rows) ∙ (ap (λ ws. a.rows ++ word_rows q.used b ws) (sym e) ∙ a.all_rows) in
+      rw (← cells, ← rows) a.adds

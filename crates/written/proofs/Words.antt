@@ -1,21 +1,12 @@
 -- The words of a line: which of them stand twice or are known, how many bytes they have, and that they are bytes.
-use Rattle.std.proofs.Common.{◌≡◌, ℕ, zero, suc, ◌+◌, ◌<◌, ◌≤◌, Bool, true, false, ◌&&◌, ◌||◌, eqb, List, [], ◌∷◌, ◌++◌, length, get_or, sym, refl, ap, ◌∙◌, ap₂, ⊎_elim, append_assoc, append-nil, arith}
+use Rattle.std.proofs.Common.{◌≡◌, ℕ, zero, suc, ◌<◌, Bool, true, false, ◌&&◌, ◌||◌, eqb, List, [], ◌∷◌, ◌++◌, get_or, sym, refl, ap, ◌∙◌, ap₂, ⊎_elim, append_assoc, append-nil, arith}
 use mathlib.Core.Bool.{or-false, or_assoc}
-use Rattle.std.specs.List.{AllByRecursion, position_or_len}
-use Rattle.std.proofs.lemmas.List.Sums.{position_or_len_is}
+use Rattle.std.specs.List.{AllByRecursion}
 use Rattle.std.proofs.ByRecursion.{All-from_get_or}
-use Rattle.std.proofs.lemmas.Bool.{eqb-true, eqb-false, eq-eqb, ne_eqb, cond_both, cases_Bool, and_parts}
-use Rattle.written.specs.Lines.{onto, pieces, every, any_known, some_among}
+use Rattle.std.proofs.lemmas.Bool.{eqb-true, eqb-false, eq-eqb, ne_eqb, cond_both, cases_Bool}
+use Rattle.written.specs.Lines.{onto, pieces, any_known, some_among}
 use Rattle.written.specs.Matching.{same}
 use Rattle.written.specs.Model.{among}
-use Rattle.written.specs.Store.{word_cells}
-use Rattle.written.proofs.Cuts.{ClearIn}
-
--- The first place of a mark, told by its neighbours.
-pub mark_place : (m : ℕ) (xs : List ℕ) (e : ℕ) → e ≤ length xs → ClearIn m xs 0 e → (e < length xs → get_or xs e 0 ≡ m) →
-    position_or_len (λ b. eqb b m) xs ≡ e
-mark_place m xs e to clear stops =
-    position_or_len_is (λ b. eqb b m) xs e 0 to (λ k l. ne_eqb (get_or xs k 0) m (clear k (omega arith) l)) (λ l. eq-eqb (get_or xs e 0) m (stops l))
 
 or_swap : (a b c d : Bool) → ((a || b) || (c || d)) ≡ ((a || c) || (b || d))
 or_swap true b c d = refl
@@ -64,49 +55,6 @@ pub first_again : (w : List ℕ) (ws : List (List ℕ)) → any_known [] (w ∷ 
 unfolding any_known among
 first_again w ws = any_known_split (w ∷ []) ws ∙ ap (λ b. b || any_known [] ws) (some_one w ws)
 
--- One turn of a loop over pieces: the first of those left is tested, and the rest decides unless the test did.
-module _ {ps rest : List (List ℕ)} {w : List ℕ} (cuts : ps ≡ w ∷ rest) {all : Bool} where
-  pub every_more : (p : List ℕ → Bool) → every p ps ≡ all → (t : Bool) → t ≡ p w → t && every p rest ≡ all
-  unfolding every
-  every_more p inv t e = ap (λ b. b && every p rest) e ∙ sym (ap (every p) cuts) ∙ inv
-
-  pub among_more : (v : List ℕ) → among v ps ≡ all → (t : Bool) → t ≡ same v w → t || among v rest ≡ all
-  unfolding among
-  among_more v inv t e = ap (λ b. b || among v rest) e ∙ sym (ap (among v) cuts) ∙ inv
-
-  pub repeats_more : any_known [] ps ≡ all → (t : Bool) → t ≡ among w rest → t || any_known [] rest ≡ all
-  repeats_more inv t e =
-      ap (λ b. b || any_known [] rest) e ∙ sym (first_again w rest) ∙ sym (ap (any_known []) cuts) ∙ inv
-
--- Each mark stands between two pieces, and all other bytes are in pieces.
-abbrev all_bytes : List (List ℕ) → ℕ
-all_bytes ps = length (word_cells ps)
-
-abbrev Counted : List (List ℕ) → ℕ → Type 0
-Counted ps n = (0 < length ps) × (all_bytes ps + length ps ≡ n + 1)
-
-counted_mark : (ps : List (List ℕ)) (n : ℕ) → Counted ps n → Counted ([] ∷ ps) (suc n)
-unfolding word_cells
-counted_mark ps n (some, e) = (omega arith, omega arith)
-
-counted_onto : (b : ℕ) (ps : List (List ℕ)) (n : ℕ) → Counted ps n → Counted (onto b ps) (suc n)
-unfolding word_cells
-counted_onto b [] n (some, e) = absurd (omega arith)
-counted_onto b (p ∷ ps) n (some, e) = (omega arith, omega arith)
-
-counted : (m : ℕ) (xs : List ℕ) → Counted (pieces m xs) (length xs)
-unfolding pieces word_cells
-counted m [] = (omega arith, refl)
-counted m (x ∷ xs) =
-    cond_both (eqb x m) ([] ∷ pieces m xs) (onto x (pieces m xs)) (λ ps. Counted ps (suc (length xs)))
-    (λ _. counted_mark (pieces m xs) (length xs) (counted m xs)) (λ _. counted_onto x (pieces m xs) (length xs) (counted m xs))
-
-pub pieces_some : (m : ℕ) (xs : List ℕ) → 0 < length (pieces m xs)
-pieces_some m xs = (counted m xs).0
-
-pub bytes_counted : (m : ℕ) (xs : List ℕ) → length (word_cells (pieces m xs)) + length (pieces m xs) ≡ length xs + 1
-bytes_counted m xs = (counted m xs).1
-
 -- What holds of all bytes holds of those of the pieces.
 all_onto : (P : ℕ → Type 0) (b : ℕ) (ps : List (List ℕ)) → P b → AllByRecursion (AllByRecursion P) ps → AllByRecursion (AllByRecursion P) (onto b ps)
 all_onto P b [] h hs = ((h, tt), tt)
@@ -133,9 +81,3 @@ bytes_at (p ∷ ps) (h, hs) (suc w) j = bytes_at ps hs w j
 pub pieces_bytes : (m : ℕ) (xs : List ℕ) → ((i : ℕ) → get_or xs i 0 < 256) → (w j : ℕ) → get_or (get_or (pieces m xs) w []) j 0 < 256
 pieces_bytes m xs h =
     bytes_at (pieces m xs) (all_pieces (λ b. b < 256) m xs (All-from_get_or (λ b. b < 256) xs 0 (λ i _. h i)))
-
-pub every_at : (p : List ℕ → Bool) (ws : List (List ℕ)) → every p ws ≡ true → (k : ℕ) → k < length ws → p (get_or ws k []) ≡ true
-unfolding every
-every_at p [] h k l = absurd (omega arith)
-every_at p (w ∷ ws) h zero l = (and_parts (p w) (every p ws) h).0
-every_at p (w ∷ ws) h (suc k) l = every_at p ws (and_parts (p w) (every p ws) h).1 k (omega arith)

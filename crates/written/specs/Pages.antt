@@ -1,5 +1,5 @@
 -- What a lent table holds, by how much of its front is written and how many words have rows at its back.
-use Rattle.std.specs.Prelude.{◌≡◌, ℕ, ◌+◌, ◌-◌, ◌*◌, ◌≤◌, min, List, [], ◌∷◌, ◌++◌, length, take, slice_index}
+use Rattle.std.specs.Prelude.{◌≡◌, ℕ, ◌+◌, ◌-◌, ◌*◌, ◌≤◌, min, List, [], ◌++◌, length, take, slice_index}
 use Rattle.written.specs.Store.{Row, Store, counted}
 use Rattle.written.specs.declared.page.Page.{Page}
 
@@ -30,19 +30,19 @@ abbrev pub Inside : List ℕ → ℕ → Type 0
 Inside table a =
     (a + 3 ≤ length table) × (slice_index table (a + 2) + slice_index table a + slice_index table (a + 1) ≤ length table)
 
--- What a page holds, and what a store is with cells more at its front and with a row more.
+-- What a page holds, and what a store is with cells more at its front and rows more.
 unfoldable pub page_store : Page → Store
 page_store p = store p.table.now p.used p.words
 
-abbrev pub with_cells : Store → List ℕ → Store
-with_cells s xs = record { front = s.front ++ xs; rows = s.rows }
+abbrev pub extended : Store → List ℕ → List Row → Store
+extended s xs rs = record { front = s.front ++ xs; rows = s.rows ++ rs }
 
--- The front of a page has some cells more, and nothing else of it has changed.
-pub record Appended (p q : Page) (xs : List ℕ) : Type 0 where
-  pub store : page_store q ≡ with_cells (page_store p) xs
+-- A page has some cells more at its front and some rows more, and nothing else of it has changed.
+pub record Extended (p q : Page) (xs : List ℕ) (rs : List Row) : Type 0 where
+  pub store : page_store q ≡ extended (page_store p) xs rs
   pub len : length q.table.now ≡ length p.table.now
   pub used : q.used ≡ p.used + length xs
-  pub words : q.words ≡ p.words
+  pub words : q.words ≡ p.words + length rs
 
-abbrev pub with_row : Store → Row → Store
-with_row s r = record { front = s.front; rows = s.rows ++ (r ∷ []) }
+abbrev pub Appended : Page → Page → List ℕ → Type 0
+Appended p q xs = Extended p q xs []

@@ -2,11 +2,20 @@ ghost use Rattle.std.specs.Prelude.{◌≤◌};
 ghost use Rattle.written.specs.Pages.{limit, store, taken};
 ghost use Rattle.written.specs.Store.{Whole};
 
+use crate::closed::Written;
+use crate::cost::cost;
+use crate::line::{repeats, split, word_count};
+use crate::note::fresh_names;
 use crate::page::Page;
+use formula::meaning::meaning;
+use formula::way::Disjuncts;
+use refusal::Refusal;
+use refusal::fault::LineFault;
 
-pub mod enter;
-pub mod take;
 pub mod text;
+
+/// A draft has at most so many words.
+const MOST_WORDS: usize = 256;
 
 /// A dictionary that is being written: it takes lines until it is closed.
 #[derive(Drop)]
@@ -15,4 +24,107 @@ pub struct Draft<'t> {
     ghost roomy: { taken page.used page.words ≤ limit page.table.now },
     ghost few: { page.words ≤ 256 },
     ghost whole: { Whole (store page.table.now page.used page.words) },
+}
+
+impl<'t> Draft<'t> {
+    ghost use Rattle.std.specs.Prelude.{◌≡◌, length, true};
+    ghost use Rattle.formula.specs.Shown.{disjuncts_of};
+    ghost use Rattle.written.specs.Drafts.{LeftBehind, OneNumber, answered, book, cells_of, drafted, empty_book, lined, entered};
+    ghost use Rattle.written.specs.Lines.{every, good_word, pieces};
+    ghost use Rattle.written.specs.Meaning.{written};
+    ghost use Rattle.written.specs.Model.{find, Fitting};
+    ghost use Rattle.written.specs.Store.{model};
+
+    /// A draft without lines, over a lent table of which it may use at most the first 65,535 cells.
+    pub fn new(table: &'t mut [u16]) -> Draft<'t>
+        ensures book { book result ≡ empty_book }
+        ensures table { result.page.table.now ≡ table.old }
+    {
+        Draft {
+            page: Page {
+                table,
+                used: 0,
+                words: 0,
+            },
+        }
+    }
+
+    /// Takes a line: its words with the disjuncts of its formula, or a refusal that leaves draft and table as they were.
+    pub fn line(&mut self, line: &[u8]) -> Result<(), LineFault>
+        ensures answer { lined (cells_of self.old) (book self.old) line.now ≡ answered result (book self.new) }
+        ensures left { LeftBehind self.old.page self.new.page result }
+        ensures numbers { OneNumber (model (drafted self.new)).names }
+        ensures cells { cells_of self.new ≡ cells_of self.old }
+    {
+        let parts = split(line)?;
+        let disjuncts = meaning(parts.formula)?;
+        self.enter(parts.words, &disjuncts)
+    }
+
+    /// How many words the draft has.
+    pub fn words(&self) -> usize
+        ensures { result ≡ length (book self.now).entries }
+    {
+        self.page.words
+    }
+
+    /// How many cells of the table its lines have taken.
+    pub fn spent(&self) -> usize
+        ensures { result ≡ (book self.now).spent }
+    {
+        self.read().cells()
+    }
+
+    /// The number of a word, or 65,535 where it is not defined.
+    pub fn find(&self, word: &[u8]) -> u16
+        ensures { result ≡ find (model (drafted self.now)) word.now }
+    {
+        self.read().find(word)
+    }
+
+    /// Closes the draft: what was drafted is a dictionary, which takes no more lines.
+    pub fn close(self) -> Written<'t>
+        ensures { written result ≡ drafted self.entry }
+    {
+        let Draft { page } = self;
+        let Page { table, used, words } = page;
+        Written { table, used, words }
+    }
+
+    /// What is drafted so far, to be read.
+    pub(crate) fn read(&self) -> Written<'_>
+        ensures holds { written result ≡ drafted self.now }
+        ensures table { result.table.now ≡ self.now.page.table.now }
+        ensures used { result.used ≡ self.now.page.used }
+        ensures words { result.words ≡ self.now.page.words }
+    {
+        Written {
+            table: self.page.table,
+            used: self.page.used,
+            words: self.page.words,
+        }
+    }
+
+    /// Enters the words of a line, all with its disjuncts, unless one of them is known or there is no room.
+    pub(crate) fn enter(&mut self, words: &[u8], disjuncts: &Disjuncts) -> Result<(), LineFault>
+        requires good { every good_word (pieces 32 words.now) ≡ true }
+        requires fitting { Fitting (disjuncts_of disjuncts.now) }
+        ensures answer { entered (cells_of self.old) (book self.old) (pieces 32 words.now) (disjuncts_of disjuncts.now) ≡ answered result (book self.new) }
+        ensures left { LeftBehind self.old.page self.new.page result }
+        ensures len { length self.new.page.table.now ≡ length self.old.page.table.now }
+    {
+        let read = self.read();
+        if read.knows_any(words) || repeats(words) {
+            return Err(Refusal::WordTaken.into());
+        }
+        if word_count(words) > MOST_WORDS - read.words {
+            return Err(Refusal::TableShort.into());
+        }
+        let fresh = fresh_names(read.front(), disjuncts);
+        if cost(words, disjuncts, &fresh) > read.room() {
+            return Err(Refusal::TableShort.into());
+        }
+        self.page.write_line(words, disjuncts, &fresh);
+        Ok(())
+    }
 }

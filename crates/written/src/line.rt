@@ -54,20 +54,13 @@ pub fn unended(text: &[u8]) -> &[u8]
     text.strip_suffix(b"\n").unwrap_or(text)
 }
 
-/// Whether two rows of bytes are the same.
-pub(crate) fn same_bytes(a: &[u8], b: &[u8]) -> bool
-    ensures { result ≡ same a.now b.now }
-{
-    a == b
-}
-
 /// How often a word stands among some words.
 fn times(words: &[u8], word: &[u8]) -> usize
     ensures { result ≡ count_by (same word.now) (pieces 32 words.now) }
 {
     words
         .split(|b| *b == b' ')
-        .filter(|other| same_bytes(word, other))
+        .filter(|other| *other == word)
         .count()
 }
 

@@ -1,5 +1,9 @@
+use crate::front::MARK;
+
 pub mod line;
-pub mod write;
+
+/// Of a table at most so many cells are used.
+pub(crate) const LIMIT: usize = 65535;
 
 /// The lent table and how much of it is written: cells from the front, and a row of four cells for each word at the back.
 #[derive(Drop)]
@@ -7,4 +11,54 @@ pub struct Page<'t> {
     pub(crate) table: &'t mut [u16],
     pub(crate) used: usize,
     pub(crate) words: usize,
+}
+
+impl<'t> Page<'t> {
+    ghost use Rattle.std.specs.Prelude.{◌+◌, ◌<◌, ◌≤◌, [], ◌∷◌, length};
+    ghost use Rattle.written.specs.Pages.{Appended, Extended, limit, taken};
+    ghost use Rattle.written.specs.Store.{name_cells};
+
+    /// Writes a cell behind the front.
+    pub(crate) fn push(&mut self, cell: u16)
+        requires { taken self.old.used self.old.words < limit self.old.table.now }
+        ensures { Appended self.old self.new (cell ∷ []) }
+    {
+        let at = self.used;
+        self.table[at] = cell;
+        self.used = at + 1;
+    }
+
+    /// Writes the row of a word before those of the words before it.
+    pub(crate) fn push_row(&mut self, word: u16, len: u16, block: u16)
+        requires { taken self.old.used self.old.words + 4 ≤ limit self.old.table.now }
+        ensures { Extended self.old self.new [] (record { word = word; length_of = len; block = block } ∷ []) }
+    {
+        let words = self.words;
+        let at = self.table.len().min(LIMIT) - 4 * (words + 1);
+        self.table[at] = word;
+        self.table[at + 1] = len;
+        self.table[at + 2] = block;
+        self.table[at + 3] = 0;
+        self.words = words + 1;
+    }
+
+    /// Writes bytes behind the front, a cell for each.
+    pub(crate) fn push_bytes(&mut self, bytes: &[u8])
+        requires { taken self.old.used self.old.words + length bytes.now ≤ limit self.old.table.now }
+        ensures { Appended self.old self.new bytes.now }
+    {
+        for b in bytes {
+            self.push(u16::from(*b));
+        }
+    }
+
+    /// Writes a name behind the front: a mark, its length and its bytes.
+    pub(crate) fn push_name(&mut self, name: &[u8])
+        requires { taken self.old.used self.old.words + 2 + length name.now ≤ limit self.old.table.now }
+        ensures { Appended self.old self.new (name_cells name.now) }
+    {
+        self.push(MARK);
+        self.push(name.len() as u16);
+        self.push_bytes(name);
+    }
 }

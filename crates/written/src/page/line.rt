@@ -3,7 +3,7 @@ ghost use Rattle.formula.specs.Shown.{disjunct_of, disjuncts_of};
 ghost use Rattle.written.specs.Costs.{line_cost};
 ghost use Rattle.written.specs.Lines.{pieces};
 ghost use Rattle.written.specs.Model.{fresh as unmet, mentioned, number_of};
-ghost use Rattle.written.specs.Pages.{Appended, limit, page_store, taken, with_cells, with_row};
+ghost use Rattle.written.specs.Pages.{Appended, Extended, limit, page_store, taken};
 ghost use Rattle.written.specs.Store.{all_name_cells, block_cells, connectors, heads, lent, names_from, names_of as known_names, numbered, with_line, word_cells, word_rows};
 
 use crate::front::number;
@@ -90,11 +90,8 @@ impl<'t> Page<'t> {
 
     /// Writes a word and its row.
     fn write_word(&mut self, word: &[u8], block: usize)
-        requires room { (taken self.old.used self.old.words + length word.now + 4 ≤ limit self.old.table.now) × (block ≤ self.old.used) }
-        ensures store { page_store self.new ≡ with_row (with_cells (page_store self.old) word.now) (record { word = self.old.used; length_of = length word.now; block = block }) }
-        ensures len { length self.new.table.now ≡ length self.old.table.now }
-        ensures used { self.new.used ≡ self.old.used + length word.now }
-        ensures words { self.new.words ≡ self.old.words + 1 }
+        requires { (taken self.old.used self.old.words + length word.now + 4 ≤ limit self.old.table.now) × (block ≤ self.old.used) }
+        ensures { Extended self.old self.new word.now (record { word = self.old.used; length_of = length word.now; block = block } ∷ []) }
     {
         let at = self.used;
         self.push_bytes(word);
@@ -103,11 +100,8 @@ impl<'t> Page<'t> {
 
     /// Writes words, parted by single spaces, and their rows.
     fn write_words(&mut self, words: &[u8], block: usize)
-        requires room { (taken self.old.used self.old.words + length (word_cells (pieces 32 words.now)) + 4 * length (pieces 32 words.now) ≤ limit self.old.table.now) × (block ≤ self.old.used) }
-        ensures store { page_store self.new ≡ record { front = (page_store self.old).front ++ word_cells (pieces 32 words.now); rows = (page_store self.old).rows ++ word_rows self.old.used block (pieces 32 words.now) } }
-        ensures len { length self.new.table.now ≡ length self.old.table.now }
-        ensures used { self.new.used ≡ self.old.used + length (word_cells (pieces 32 words.now)) }
-        ensures words { self.new.words ≡ self.old.words + length (pieces 32 words.now) }
+        requires { (taken self.old.used self.old.words + length (word_cells (pieces 32 words.now)) + 4 * length (pieces 32 words.now) ≤ limit self.old.table.now) × (block ≤ self.old.used) }
+        ensures { Extended self.old self.new (word_cells (pieces 32 words.now)) (word_rows self.old.used block (pieces 32 words.now)) }
     {
         for word in words.split(|b| *b == b' ') {
             self.write_word(word, block);

@@ -11,8 +11,7 @@ use Rattle.written.specs.Lines.{pieces, any_known, some_among}
 use Rattle.written.specs.Model.{Fitting, Named, fresh, mentioned}
 use Rattle.written.specs.Pages.{limit, page_store, taken}
 use Rattle.written.specs.Store.{Store, Whole, known, lent, names_of as store_names, with_line, model, MARK}
-use Rattle.written.proofs.Entered.{is_taken, is_dear, is_many, is_entered, all_at}
-use Rattle.written.proofs.Finds.{words_of}
+use Rattle.written.proofs.Entered.{is_taken, is_dear, is_many, is_entered, all_at, words_of}
 use Rattle.written.proofs.Found.{length_entries}
 use Rattle.written.proofs.Known.{fresh_all}
 use Rattle.written.proofs.Lined.{length_front}
@@ -20,7 +19,8 @@ use Rattle.written.proofs.Lines.{named_from}
 use Rattle.written.proofs.Names.{NamedOk}
 use Rattle.written.proofs.Renamed.{all_mentioned}
 use Rattle.written.proofs.Stored as stored
-use Rattle.written.proofs.Words.{any_known_split, pieces_bytes, pieces_some}
+use Rattle.written.proofs.Splits.{pieces_some}
+use Rattle.written.proofs.Words.{any_known_split, pieces_bytes}
 use Rattle.written.proofs.draft.Draft.enter.Goals as goal
 use Rattle.written.proofs.draft.Draft.enter.Goals.{then-knows_any-via-then-knows_any, then-knows_any-via-else-knows_any+then-repeats}
 

@@ -1,4 +1,4 @@
-use Rattle.std.proofs.Common.{refl, length-set}
+use Rattle.std.proofs.Common.{refl, arith, length-set}
 use Rattle.written.specs.Pages.{page_store}
 use Rattle.written.proofs.Grown.{cell_store}
 use Rattle.written.proofs.page.Page.push.Goals as goal
@@ -11,5 +11,5 @@ returns c =
       store = cell_store p.table.now p.used p.words c.args.cell c.requires;
       len = length-set p.table.now p.used c.args.cell;
       used = refl;
-      words = refl;
+      words = omega arith;
     }

@@ -1,10 +1,10 @@
 use Rattle.std.proofs.Common.{◌≡◌, ◌+◌, ◌<◌, ◌≤◌, [], ◌∷◌, ◌++◌, length, take, sym, ap, ◌∙◌, arith}
 use Rattle.std.proofs.lemmas.List.{length-take-le, take_more, take_all}
-use Rattle.written.proofs.Added.{appended_as, appended_more, appended_none}
+use Rattle.written.proofs.Added.{appended_as, appended_more, extended_none}
 use Rattle.written.proofs.page.Page.push_bytes.Goals as goal
 
 pub loop-b-init : goal.loop-b-init
-loop-b-init c = appended_none c.args.self.now
+loop-b-init c = extended_none c.args.self.now
 
 pub push-requires : goal.push-requires
 push-requires c =

@@ -11,6 +11,6 @@ returns c =
     record {
       store = row_store T p.used p.words (c.min.result - 4 * (p.words + 1)) c.args.word c.args.len c.args.block (omega arith) c.requires;
       len = simp length-set;
-      used = refl;
+      used = omega arith;
       words = refl;
     }
