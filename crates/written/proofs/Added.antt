@@ -15,13 +15,6 @@ use Rattle.written.specs.Store.{Row, Store, all_name_cells, connectors, heads, l
 use Rattle.written.proofs.Blocks.{length_heads}
 use Rattle.written.proofs.Lined.{with_cells}
 
-pub extended_none : (p : Page) → Extended p p [] []
-extended_none p =
-    let s = page_store p in
-    let front = sym (append-nil s.front) in
-    let rows = sym (append-nil s.rows) in
-    record { store = λ i. record { front = front i; rows = rows i }; len = refl; used = omega arith; words = omega arith }
-
 -- What is added by two writes after each other.
 pub extended_more : (p q r : Page) (xs ys : List ℕ) (rs ss : List Row) → Extended p q xs rs → Extended q r ys ss →
     Extended p r (xs ++ ys) (rs ++ ss)
@@ -72,9 +65,6 @@ pub record Adding (p q : Page) (left all : List ℕ) : Type 0 where
   pub whole : done ++ left ≡ all
 
 module _ (p q : Page) (all : List ℕ) where
-  pub adding_start : Adding p p all all
-  adding_start = record { done = []; adds = extended_none p; whole = refl }
-
   module _ (left xs rest : List ℕ) (a : Adding p q left all) (e : left ≡ xs ++ rest) where
     pub adding_step : (r : Page) → Appended q r xs → Adding p r rest all
     adding_step r b =

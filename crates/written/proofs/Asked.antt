@@ -1,10 +1,8 @@
 -- What the questions of a dictionary read from a table is what the store means.
-use Rattle.std.proofs.Common.{◌≡◌, ℕ, ◌+◌, ◌*◌, ◌<◌, ◌≤◌, Bool, true, false, cond, ◌&&◌, eqb, List, [], length, get_or, take, drop, Some, None, sym, refl, ap, ◌∙◌, ap₂, ⊎_elim, arith}
-use Rattle.std.proofs.lemmas.List.{get_or_past, length-take-le, take-append-drop}
+use Rattle.std.proofs.Common.{◌≡◌, ℕ, ◌+◌, ◌*◌, ◌<◌, ◌≤◌, Bool, true, false, cond, ◌&&◌, eqb, List, length, get_or, take, drop, Some, None, sym, refl, ap, ◌∙◌, ap₂, ⊎_elim, arith}
+use Rattle.std.proofs.lemmas.List.{length-take-le, take-append-drop}
 use Rattle.std.proofs.lemmas.Bool.{and_left, and_right, cases_lt}
-use Rattle.lexicon.specs.Lexicon.{Disjunct, free, side_of}
-use Rattle.lexicon.specs.declared.side.Side.{Side}
-use Rattle.lexicon.specs.declared.side.Side.TheVariants.{Left, Right}
+use Rattle.lexicon.specs.Lexicon.{free}
 use Rattle.written.specs.Kept.{getD_counted, length_counted, none_past}
 use Rattle.written.specs.Matching.{names_match}
 use Rattle.written.specs.Model.{both_match, lexicon, name_of}
@@ -14,14 +12,6 @@ use Rattle.written.proofs.Found.{front_cell, length_entries, row_known, row_whol
 use Rattle.written.proofs.Fronts.{numbers_kept}
 use Rattle.written.proofs.Names.{name_known}
 use Rattle.written.proofs.Stored.{disjuncts_known}
-
--- Past the last disjunct no connector is asked for.
-pub no_list : (ds : List (Disjunct ℕ)) (d : ℕ) (t : Side) → length ds ≤ d → [] ≡ side_of (get_or ds d free) t
-no_list ds d t h = sym (ap (λ x. side_of x t) (get_or_past ds d free h) ∙ none t)
-  where
-    none : (t : Side) → side_of (free {C = ℕ}) t ≡ []
-    none Left = refl
-    none Right = refl
 
 module _ (T : List ℕ) (used words : ℕ) (roomy : taken used words ≤ limit T) where
   within : used ≤ length T

@@ -3,7 +3,7 @@ use Rattle.std.proofs.Common.{◌≡◌, ℕ, zero, suc, ◌+◌, ◌<◌, ◌�
 use lib.ListN.{length-map}
 use Rattle.std.specs.List.{position_from, range_with_len}
 use Rattle.std.proofs.lemmas.List.{get_or-take, get_or-drop, get_or-map, drop_more, drop_all, drop-drop, take-append-drop, length-take-le}
-use Rattle.std.proofs.lemmas.Bool.{cases_Bool, true≢false, false≢true, eqb-true, eqb-false, eq-eqb, ne_eqb}
+use Rattle.std.proofs.lemmas.Bool.{cases_Bool, true≢false, false≢true}
 use Rattle.formula.specs.Tokens.{Name}
 use Rattle.written.specs.Kept.{getD_counted, length_counted}
 use Rattle.written.specs.Matching.{same}
@@ -12,21 +12,10 @@ use Rattle.written.specs.Pages.{row_at, row_place, store}
 use Rattle.written.specs.Store.{MARK, Whole, WholeRow, cell, cells, counted, entry_of, model, name_at, names_from, no_row}
 use Rattle.written.proofs.Fronts.{cells_kept}
 use Rattle.written.proofs.Known.{same_eq}
+use Rattle.written.proofs.Words.{same_swap}
 
 pub same_false : (a b : List ℕ) → (a ≡ b → ⊥) → same a b ≡ false
 same_false a b n = ⊎_elim (λ t. absurd (n (same_eq a b t))) (λ f. f) (cases_Bool (same a b))
-
-pub same_turned : (a b : List ℕ) → same a b ≡ same b a
-unfolding same
-same_turned [] [] = refl
-same_turned [] (y ∷ ys) = refl
-same_turned (x ∷ xs) [] = refl
-same_turned (x ∷ xs) (y ∷ ys) = ap₂ ◌&&◌ (eqb_turned x y) (same_turned xs ys)
-  where
-    eqb_turned : (x y : ℕ) → eqb x y ≡ eqb y x
-    eqb_turned x y =
-        ⊎_elim (λ t. t ∙ sym (eq-eqb y x (sym (eqb-true x y t)))) (λ f. f ∙ sym (ne_eqb y x (λ e. eqb-false x y f (sym e))))
-        (cases_Bool (eqb x y))
 
 -- Cells within the front.
 module _ (T : List ℕ) (used : ℕ) where
@@ -104,7 +93,7 @@ pub placed_among : (es : List Entry) (w : List ℕ) (k : ℕ) →
 unfolding among
 placed_among [] w k = refl
 placed_among (e ∷ es) w k =
-    by_first (same e.word w) (placed_among es w (k + 1)) ∙ ap (λ t. t || among w (map (λ (x : Entry). x.word) es)) (same_turned e.word w)
+    by_first (same e.word w) (placed_among es w (k + 1)) ∙ ap (λ t. t || among w (map (λ (x : Entry). x.word) es)) (same_swap e.word w)
   where
     by_first : (t : Bool) → is_some (position_from (λ (x : Entry). same x.word w) (k + 1) es) ≡ among w (map (λ (x : Entry). x.word) es) →
         is_some (cond t (Some k) (position_from (λ (x : Entry). same x.word w) (k + 1) es)) ≡ (t || among w (map (λ (x : Entry). x.word) es))
@@ -147,7 +136,7 @@ pub lookup_known : (ms : List Named) (n : Name) →
     lookup ms n ≡ cond (among n (map (λ (m : Named). m.name) ms)) (Some (number_of ms n)) None
 unfolding lookup among number_of
 lookup_known [] n = refl
-lookup_known (m ∷ ms) n = go (same m.name n) (same n m.name) (same_turned m.name n) (lookup_known ms n)
+lookup_known (m ∷ ms) n = go (same m.name n) (same n m.name) (same_swap m.name n) (lookup_known ms n)
   where
     go : (t u : Bool) → t ≡ u → lookup ms n ≡ cond (among n (map (λ (x : Named). x.name) ms)) (Some (number_of ms n)) None →
         cond t (Some m.number) (lookup ms n)

@@ -7,20 +7,10 @@ use mathlib.Core.List.{map-append}
 use Rattle.std.proofs.lemmas.List.{take_more}
 use Rattle.lexicon.specs.Lexicon.{Disjunct}
 use Rattle.formula.specs.Tokens.{Name}
-use Rattle.written.specs.Matching.{same}
 use Rattle.written.specs.Model.{among, fresh, mentioned}
 use Rattle.written.specs.Store.{lent}
 use Rattle.written.proofs.Letters.{bytes_same}
 use Rattle.written.proofs.Words.{same_swap}
-
-pub among_append : (n : Name) (xs ys : List Name) → among n (xs ++ ys) ≡ among n xs || among n ys
-unfolding among
-among_append n [] ys = refl
-among_append n (x ∷ xs) ys = go (same n x) (among_append n xs ys)
-  where
-    go : (b : Bool) → among n (xs ++ ys) ≡ among n xs || among n ys → b || among n (xs ++ ys) ≡ (b || among n xs) || among n ys
-    go true e = refl
-    go false e = e
 
 -- First some mentions, then others.
 pub fresh_append : (known ms ns : List Name) → fresh known (ms ++ ns) ≡ fresh known ms ++ fresh (known ++ fresh known ms) ns

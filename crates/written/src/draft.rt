@@ -4,15 +4,13 @@ ghost use Rattle.written.specs.Store.{Whole};
 
 use crate::closed::Written;
 use crate::cost::cost;
-use crate::line::{repeats, split, word_count};
+use crate::line::{repeats, split, unended, word_count};
 use crate::note::fresh_names;
 use crate::page::Page;
 use formula::meaning::meaning;
 use formula::way::Disjuncts;
 use refusal::Refusal;
-use refusal::fault::LineFault;
-
-pub mod text;
+use refusal::fault::{Fault, LineFault};
 
 /// A draft has at most so many words.
 const MOST_WORDS: usize = 256;
@@ -27,12 +25,13 @@ pub struct Draft<'t> {
 }
 
 impl<'t> Draft<'t> {
-    ghost use Rattle.std.specs.Prelude.{◌≡◌, length, true};
+    ghost use Rattle.std.specs.Prelude.{◌≡◌, length, true, List, ◌++◌};
+    ghost use Rattle.std.specs.Result.{result_err};
     ghost use Rattle.formula.specs.Shown.{disjuncts_of};
-    ghost use Rattle.written.specs.Drafts.{LeftBehind, OneNumber, answered, book, cells_of, drafted, empty_book, lined, entered};
-    ghost use Rattle.written.specs.Lines.{every, good_word, pieces};
+    ghost use Rattle.written.specs.Drafts.{LeftBehind, OneNumber, answered, book, cells_of, drafted, empty_book, lined, texted, entered};
+    ghost use Rattle.written.specs.Lines.{lines, every, good_word, pieces};
     ghost use Rattle.written.specs.Meaning.{written};
-    ghost use Rattle.written.specs.Model.{find, Fitting};
+    ghost use Rattle.written.specs.Model.{Named, find, Fitting};
     ghost use Rattle.written.specs.Store.{model};
 
     /// A draft without lines, over a lent table of which it may use at most the first 65,535 cells.
@@ -59,6 +58,27 @@ impl<'t> Draft<'t> {
         let parts = split(line)?;
         let disjuncts = meaning(parts.formula)?;
         self.enter(parts.words, &disjuncts)
+    }
+
+    /// Takes a text line by line, up to the first that is refused; the lines before it stand.
+    pub fn text(&mut self, text: &[u8]) -> Result<(), Fault>
+        ensures answer { texted (cells_of self.old) 1 (book self.old) (lines text.now) ≡ record { book = book self.new; fault = result_err result } }
+        ensures kept { (more : List Named) × ((model (drafted self.new)).names ≡ (model (drafted self.old)).names ++ more) }
+        ensures numbers { OneNumber (model (drafted self.new)).names }
+        ensures cells { cells_of self.new ≡ cells_of self.old }
+    {
+        if text.is_empty() {
+            return Ok(());
+        }
+        let lines = unended(text).split(|b| *b == b'\n');
+        for (before, line) in lines.enumerate() {
+            self.line(line).map_err(|e| Fault {
+                line: before + 1,
+                place: e.place,
+                refusal: e.refusal,
+            })?;
+        }
+        Ok(())
     }
 
     /// How many words the draft has.

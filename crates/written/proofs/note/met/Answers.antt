@@ -2,7 +2,8 @@ use Rattle.std.proofs.Common.{◌≡◌, true, false, ◌||◌, ◌++◌, sym, a
 use Rattle.written.specs.Model.{among}
 use Rattle.written.specs.Store.{known, lent, names_from}
 use Rattle.written.proofs.Found.{found_known}
-use Rattle.written.proofs.Noted.{among_append, lent_among}
+use Rattle.written.proofs.Noted.{lent_among}
+use Rattle.written.proofs.Words.{among_append}
 use Rattle.written.proofs.note.met.Goals as goal
 
 pub returns-then-is_some : goal.returns-then-is_some

@@ -99,18 +99,14 @@ returns-then-cost-room-clause-answer c =
     is_dear (cells_of d) b ws ds new (omega (arith, e, c.room.ensures, c.if-cost-room.true, r.used, r.words, d.roomy))
     ∙ ap Err (sym c.into-then-cost-room.ensures)
 
-pub write_line-requires : goal.write_line-requires
+pub write_line-requires-clause-names : goal.write_line-requires-clause-names
 unfolding page_store
-write_line-requires c =
+write_line-requires-clause-names c =
     let d = c.args.self.now in
     let ds = disjuncts_of c.args.disjuncts.now in
-    let r = c.read-read.ensures in
     let s = Rattle.written.specs.Meaning.written c.read-read.result in
-    let ns = brought c.front.result.now s (drafted d) (mentioned ds) (names_of c.fresh_names-fresh.result) c.front.ensures.value r.holds c.fresh_names-fresh.ensures in
-    let l = ap limit r.table in
-    let f : lent c.deref.result.now ≡ names_of c.fresh_names-fresh.result = ap lent c.deref.ensures.0 in
-    let e = ap (line_cost (pieces 32 c.args.words.now) ds) f in
-    record { names = f ∙ ns; room = omega (arith, c.cost.ensures, c.room.ensures, c.if-cost-room.false, r.used, r.words, d.roomy) }
+    let ns = brought c.front.result.now s (drafted d) (mentioned ds) (names_of c.fresh_names-fresh.result) c.front.ensures.value c.read-read.ensures.holds c.fresh_names-fresh.ensures in
+    ap lent c.deref.ensures.0 ∙ ns
 
 -- A draft whose page has a line more.
 module _ (d : Draft) (q : Page) (ws : List (List ℕ)) (ds : List (Disjunct Name)) (fit : Fitting ds)

@@ -10,6 +10,6 @@ invariant_of-result c = record {
   whole = (λ w h. absurd (omega arith), λ p e. absurd (omega arith), λ p q e f g. absurd (omega arith), λ i. omega arith);
 }
 
-pub returns : goal.returns
+pub returns-clause-book : goal.returns-clause-book
 unfolding counted names_from
-returns c = record { book = refl; table = refl }
+returns-clause-book c = refl

@@ -1,11 +1,8 @@
 use Rattle.std.proofs.Common.{◌+◌, get_or, drop, arith}
 use Rattle.written.specs.Store.{all_name_cells, lent, name_cells}
-use Rattle.written.proofs.Added.{adding_end, adding_room, adding_start, adding_step, names_last, names_next}
+use Rattle.written.proofs.Added.{adding_end, adding_room, adding_step, names_last, names_next}
 use Rattle.written.proofs.Noted.{no_name}
 use Rattle.written.proofs.page.Page.write_names.Goals as goal
-
-pub loop-name-init : goal.loop-name-init
-loop-name-init c = adding_start c.args.self.now c.args.self.now (all_name_cells (lent c.args.fresh.now))
 
 pub push_name-requires : goal.push_name-requires
 push_name-requires c =
