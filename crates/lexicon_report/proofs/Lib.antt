@@ -1,2 +1,1 @@
-mod Counted
 mod Told

@@ -1,11 +1,8 @@
 -- What a report counts.
-use Rattle.std.specs.Prelude.{ℕ, zero, suc, ◌+◌, length}
+use Rattle.std.specs.Prelude.{ℕ, sum_by, length}
+use Rattle.std.specs.List.{range_with_len}
 use Rattle.lexicon.specs.Lexicon.{Lexicon}
 
--- How many disjuncts the first words of a dictionary have together, and how many all have.
-unfoldable pub disjuncts_below : Lexicon → ℕ → ℕ
-disjuncts_below lex zero = 0
-disjuncts_below lex (suc n) = disjuncts_below lex n + length (lex.disjuncts n)
-
+-- How many disjuncts the words of a dictionary have together.
 abbrev pub all_disjuncts : Lexicon → ℕ
-all_disjuncts lex = disjuncts_below lex lex.words
+all_disjuncts lex = sum_by (λ w. length (lex.disjuncts w)) (range_with_len 0 lex.words)

@@ -70,15 +70,20 @@ fn write_word(out: &mut Vec<u8>, dictionary: &Written, word: u16) -> io::Result<
     Ok(())
 }
 
-/// How many disjuncts the words have, word by word.
+/// How many words there are, as a number of the kind that names a word.
+fn word_count(dictionary: &Written) -> u16
+    ensures { result ≡ (written_lexicon dictionary.now).words }
+{
+    dictionary.words() as u16
+}
+
+/// How many disjuncts the words have.
 fn disjunct_count(dictionary: &Written) -> usize
     ensures { result ≡ all_disjuncts (written_lexicon dictionary.now) }
 {
-    let mut count = 0;
-    for word in 0..dictionary.words() {
-        count += dictionary.disjuncts(word as u16);
-    }
-    count
+    (0..word_count(dictionary))
+        .map(|word| dictionary.disjuncts(word))
+        .sum()
 }
 
 /// The words of a dictionary, and a last line with what the dictionary and its text count.
@@ -87,9 +92,9 @@ pub(crate) fn write_dictionary(
     dictionary: &Written,
     text: &[u8],
 ) -> io::Result<()> {
-    let words = dictionary.words();
+    let words = word_count(dictionary);
     for word in 0..words {
-        write_word(out, dictionary, word as u16)?;
+        write_word(out, dictionary, word)?;
     }
     let lines = line_count(text);
     let disjuncts = disjunct_count(dictionary);

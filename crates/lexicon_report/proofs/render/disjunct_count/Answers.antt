@@ -1,45 +1,20 @@
-use Rattle.std.proofs.Common.{◌≡◌, length, sym, ap, ◌∙◌, arith, lit≤}
-use Rattle.lexicon_report.specs.Counts.{disjuncts_below}
-use Rattle.written.specs.Kept.{few_disjuncts, few_words}
+use Rattle.std.proofs.Common.{◌≡◌, ℕ, ◌*◌, ◌<◌, ◌≤◌, length, refl, arith, rules}
+use Rattle.std.specs.List.{range_with_len, sum_by}
+use Rattle.std.proofs.lemmas.List.FromFn.{length-range_with_len}
+use Rattle.std.proofs.lemmas.List.Sums.{sum_by-le}
+use Rattle.std.proofs.lemmas.Iterator.{YieldsList-from_map, YieldsList-from_range}
+use Rattle.std.proofs.lemmas.Iterator.Consumers.{YieldsList-at, fits_by_from_yields_list}
+use Rattle.written.specs.Kept.{few_disjuncts}
 use Rattle.written.specs.Meaning.{written_lexicon}
-use Rattle.lexicon_report.proofs.Counted.{no_words, word_more}
 use Rattle.lexicon_report.proofs.render.disjunct_count.Goals as goal
 
-pub overflow_cast-word : goal.overflow_cast-word
-overflow_cast-word c =
+pub sum-requires-clause-fits : goal.sum-requires-clause-fits
+sum-requires-clause-fits c =
     let d = c.args.dictionary.now in
-    let few = few_words d.table.now d.used d.words d.few in
-    let e : c.words-word-end.result ≡ (written_lexicon d).words = c.words-word-end.ensures in
-    omega arith
-
-pub loop-word-init : goal.loop-word-init
-loop-word-init c = (lit≤ tt, sym (no_words (written_lexicon c.args.dictionary.now)))
-
-pub loop-word-preserved : goal.loop-word-preserved
-loop-word-preserved c =
-    let d = c.args.dictionary.now in
-    let lex = written_lexicon d in
-    let w = c.loop-word.word in
-    let few = few_disjuncts d.table.now d.used d.words d.whole w in
-    let n : c.disjuncts-count.result ≡ length (lex.disjuncts w) = c.disjuncts-count.ensures in
-    let more = word_more lex w in
-    let (small, sum) = c.loop-word.invariant in
-    (omega arith, omega arith)
-
-pub overflow_add-count : goal.overflow_add-count
-overflow_add-count c =
-    let d = c.args.dictionary.now in
-    let w = c.loop-word.word in
-    let few = few_disjuncts d.table.now d.used d.words d.whole w in
-    let n : c.disjuncts-count.result ≡ length ((written_lexicon d).disjuncts w) = c.disjuncts-count.ensures in
-    let words = few_words d.table.now d.used d.words d.few in
-    let e : c.words-word-end.result ≡ (written_lexicon d).words = c.words-word-end.ensures in
-    let small = c.loop-word.invariant.0 in
-    omega arith
-
-pub returns : goal.returns
-returns c =
-    let lex = written_lexicon c.args.dictionary.now in
-    let e : c.words-word-end.result ≡ lex.words = c.words-word-end.ensures in
-    let all : c.loop-word.word ≡ lex.words = omega arith in
-    c.loop-word.invariant.1 ∙ ap (disjuncts_below lex) all
+    let n = c.word_count.result in
+    let f : ℕ → ℕ = λ w. length ((written_lexicon d).disjuncts w) in
+    let few : sum_by f (range_with_len 0 n) ≤ length (range_with_len 0 n) * 64 =
+    sum_by-le f 64 (range_with_len 0 n) (λ k x h. few_disjuncts d.table.now d.used d.words d.whole _) in
+    fits_by_from_yields_list f (range_with_len 0 n) c.map.result _
+    (YieldsList-from_map _ f (YieldsList-at c.map.ensures.source (YieldsList-from_range 0 n n refl (omega arith))) c.map.ensures.closure (λ x r q k. search rules))
+    (omega (arith, few, length-range_with_len 0 n, c.word_count.type_inv))
