@@ -37,10 +37,7 @@ pub struct Next<'a> {
 fn goes_on(join: Option<Join>, mark: Join) -> bool
     ensures { result ≡ goes join mark }
 {
-    match join {
-        None => true,
-        Some(own) => own == mark,
-    }
+    join.is_none_or(|own| own == mark)
 }
 
 /// What is left behind the bracket that must close next.

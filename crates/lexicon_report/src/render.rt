@@ -35,6 +35,7 @@ fn write_list(
     if len == 0 {
         out.push(b'-')?;
     }
+    // The dictionary is asked by number, so the loop goes over places and not over a list.
     for place in 0..len {
         if place > 0 {
             out.push(b' ')?;

@@ -81,6 +81,7 @@ pub(crate) fn compare_kept(
     let mut first = 0;
     for (case, end) in cases.iter().zip(ends.iter()) {
         if case.kind == Kind::Line {
+            // The words that came with the line are those numbers.
             for word in first..*end {
                 if !kept.word_has(u16::try_from(word)?, case.answer.as_str())? {
                     judge.tell(case, "a word with other disjuncts in the dictionary")?;
