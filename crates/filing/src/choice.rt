@@ -12,6 +12,7 @@ use refusal::Refusal;
 use rows::Rows;
 
 /// The byte for a bare word.
+// Choices are filed as one byte for each word, so the mark is of the subject and only `number` reads it.
 const BARE: u8 = 255;
 
 /// What somebody chooses for the words of a sentence, a byte for each.

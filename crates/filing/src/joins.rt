@@ -13,6 +13,7 @@ use rows::MOST_WORDS;
 #[derive(Drop)]
 pub(crate) struct Joins {
     labels: ArrayVec<usize, MOST_WORDS>,
+    // Kept as links come: to count the labels that differ would take a search for each.
     pub(crate) parts: usize,
 }
 
@@ -34,6 +35,7 @@ impl Joins {
         ensures holds { Holds [] result }
         ensures count { array_vec_len result.labels ≡ count }
     {
+        // An ArrayVec is not collected from a range, so the labels are pushed.
         let mut labels = ArrayVec::new();
         for label in 0..count {
             labels.push(label);

@@ -6,6 +6,7 @@ pub mod line;
 pub(crate) const LIMIT: usize = 65535;
 
 /// The lent table and how much of it is written: cells from the front, and a row of four cells for each word at the back.
+// The table is all the memory there is, and it fills from both ends: so two counts stand beside it and no Vec.
 #[derive(Drop)]
 pub struct Page<'t> {
     pub(crate) table: &'t mut [u16],

@@ -13,6 +13,7 @@ use lexicon::dictionary::Dictionary;
 use lexicon::side::Side;
 
 /// The number that no word has: what the subject gives for a word that is not there.
+// `place` tells it as an Option; only the call of the subject gives the number.
 const NO_WORD: u16 = 65535;
 
 impl<'t> Written<'t> {
