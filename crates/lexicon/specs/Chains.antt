@@ -1,5 +1,5 @@
 -- The dictionary of a chain, in which a set of words says what may follow each word.
-use Rattle.std.specs.Prelude.{◌≡◌, ℕ, ◌/◌, ◌%◌, ◌^◌, ◌≤◌, Bool, true, false, cond, ◌&&◌, List, [], ◌∷◌, length, Ok, Err, Result, ◌==◌, nat_lt, slice_index, refl}
+use Rattle.std.specs.Prelude.{◌≡◌, ℕ, ◌/◌, ◌%◌, ◌^◌, ◌≤◌, min, Bool, true, false, cond, ◌&&◌, List, [], ◌∷◌, length, Ok, Err, Result, ◌==◌, nat_lt, slice_index, refl}
 use Rattle.refusal.specs.declared.Refusal.{Refusal}
 use Rattle.refusal.specs.declared.Refusal.TheVariants.{ChainSize}
 use Rattle.lexicon.specs.declared.chain.Chain.{Chain}
@@ -23,12 +23,16 @@ four a =
     ∷ record { left = a ∷ []; right = a ∷ [] }
     ∷ []
 
+-- The number of words. A set has no bit for a word past the 64th, so what stands there means nothing; no `Chain` is longer.
+abbrev pub size : List ℕ → ℕ
+size follow = min (length follow) 64
+
 -- A connector is the word that it belongs to, and on the right it matches the words that may follow.
 abbrev pub chain : List ℕ → Lexicon
 chain follow = record {
-  words = length follow;
-  disjuncts = λ a. cond (nat_lt a (length follow)) (four a) [];
-  matches = λ a b. nat_lt a (length follow) && (nat_lt b (length follow) && has (slice_index follow a) b);
+  words = size follow;
+  disjuncts = λ a. cond (nat_lt a (size follow)) (four a) [];
+  matches = λ a b. nat_lt a (size follow) && (nat_lt b (size follow) && has (slice_index follow a) b);
 }
 
 -- Where the word 1 alone may follow the word 0, and none may follow 1.

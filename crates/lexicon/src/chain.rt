@@ -47,7 +47,7 @@ impl<'a> Dictionary for Chain<'a> {
 
     ghost meaning = { chain_of };
 
-    ghost few_words = { λ c. few_words c.follow.now c.few };
+    ghost few_words = { λ c. few_words c.follow.now };
 
     ghost none_past = { λ c. none_past c.follow.now };
 
@@ -55,7 +55,7 @@ impl<'a> Dictionary for Chain<'a> {
 
     ghost short_lists = { λ c. short_lists c.follow.now };
 
-    ghost small_connectors = { λ c. small_connectors c.follow.now c.few };
+    ghost small_connectors = { λ c. small_connectors c.follow.now };
 
     fn words(&self) -> usize {
         self.follow.len()
