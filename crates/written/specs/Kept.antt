@@ -1,5 +1,8 @@
 -- A store keeps the limits of a dictionary: the proofs that a written dictionary hands over with its answers.
 use Rattle.std.specs.Prelude.{◌≡◌, ℕ, zero, suc, ◌+◌, ◌^◌, ◌<◌, ◌≤◌, List, [], ◌∷◌, map, length, get_or, take, ◌==◌, slice_index, slice_index_or}
+use Rattle.std.proofs.Math.Logic.{∥∥₁_elim}
+use Rattle.std.proofs.Math.Bridge.{le_prop}
+use Rattle.std.proofs.Math.Nat.{ℕ_set}
 use Rattle.std.proofs.Common.{⊎_elim, sym, subst, ◌∙◌, lit<, lit≤, length-take}
 use Rattle.std.proofs.Math.Path.{refl, ap}
 use native.Mathlib.Omega.{arith}
@@ -14,6 +17,38 @@ use Rattle.written.specs.Matching.{same}
 use Rattle.written.specs.Model.{Entry, lexicon, number_of, renamed, no_entry}
 use Rattle.written.specs.Pages.{limit, taken, store, row_at}
 use Rattle.written.specs.Store.{Store, MARK, Whole, cell, name_at, names_from, numbers_at, third, counted, block_at, entry_of, model, no_row}
+
+-- What keeps a store readable is made of comparisons and equations of numbers, so it comes out of a truncation.
+module _ (s : Store) (t : ∥ Whole s ∥₁) where
+  least : {m n : ℕ} → (Whole s → m ≤ n) → m ≤ n
+  least f = ∥∥₁_elim t le_prop f
+
+  level : {m n : ℕ} → (Whole s → m ≡ n) → m ≡ n
+  level f = ∥∥₁_elim t (ℕ_set _ _) f
+
+  pub whole_known : Whole s
+  whole_known = (
+    λ w h. (
+      least (λ x. (x.0 w h).0),
+      (
+        least (λ x. (x.0 w h).1.0),
+        least (λ x. (x.0 w h).1.1),
+        λ k l. (
+          least (λ x. ((x.0 w h).1.2 k l).0),
+          least (λ x. ((x.0 w h).1.2 k l).1),
+          least (λ x. ((x.0 w h).1.2 k l).2),
+          λ i m. (
+            least (λ x. (((x.0 w h).1.2 k l).3 i m).0),
+            level (λ x. (((x.0 w h).1.2 k l).3 i m).1),
+            least (λ x. (((x.0 w h).1.2 k l).3 i m).2),
+          ),
+        ),
+      ),
+    ),
+    λ p e. (least (λ x. (x.1 p e).0), level (λ x. (x.1 p e).1), least (λ x. (x.1 p e).2)),
+    λ p q e f g. level (λ x. x.2 p q e f g),
+    λ i. least (λ x. x.3 i),
+  )
 
 module _ {A : Type 0} (f : ℕ → A) where
   pub length_counted : (k n : ℕ) → length (counted f k n) ≡ n
@@ -144,17 +179,17 @@ module _ (table : List ℕ) (used words : ℕ) where
   pub none_past : NonePast (lexicon (model (store table used words)))
   none_past = none_past_ways (store table used words)
 
-  pub few_disjuncts : Whole (store table used words) → FewDisjuncts (lexicon (model (store table used words)))
+  pub few_disjuncts : ∥ Whole (store table used words) ∥₁ → FewDisjuncts (lexicon (model (store table used words)))
   few_disjuncts t w =
       let s = store table used words in
-      let l = few_ways s t w in
+      let l = few_ways s (whole_known s t) w in
       let n = length-map (ways s w) (renamed (number_of (model s).names)) in
       omega arith
 
-  pub short_lists : Whole (store table used words) → ShortLists (lexicon (model (store table used words)))
+  pub short_lists : ∥ Whole (store table used words) ∥₁ → ShortLists (lexicon (model (store table used words)))
   short_lists t w k side =
       let s = store table used words in
-      let l = short_ways s t w k side in
+      let l = short_ways s (whole_known s t) w k side in
       let n = length_renamed (number_of (model s).names) (ways s w) k side in
       omega arith
 

@@ -74,9 +74,9 @@ impl<'t> Dictionary for Written<'t> {
 
     ghost none_past = { λ w. none_past w.table.now w.used w.words };
 
-    ghost few_disjuncts = { λ w. few_disjuncts w.table.now w.used w.words w.whole };
+    ghost few_disjuncts = { λ w. few_disjuncts w.table.now w.used w.words ∣ w.whole ∣₁ };
 
-    ghost short_lists = { λ w. short_lists w.table.now w.used w.words w.whole };
+    ghost short_lists = { λ w. short_lists w.table.now w.used w.words ∣ w.whole ∣₁ };
 
     ghost small_connectors = { λ w. small_connectors w.table.now w.used w.words w.roomy };
 
