@@ -33,6 +33,10 @@ same_fewest x y e j = record { links = same_held x.links y.links e j }
 pub number_made : (a : NullLinks) → number a ≡ fewest a.number
 number_made a = same_fewest _ _ (let h = a.small in omega (arith, size_fewest a.number))
 
+-- The sum may stop at the limit, which is nothing.
+pub stopped : (n : ℕ) → fewest (stop limit n) ≡ fewest n
+stopped n = same_fewest _ _ (omega (arith, size_fewest n, size_fewest (stop limit n)))
+
 pub size_smaller : (x y : Option NullLinks) → size (smaller x y).links ≡ min (size x) (size y)
 size_smaller None y = omega (arith, size_small y)
 size_smaller (Some a) None = let h = a.small in omega arith
