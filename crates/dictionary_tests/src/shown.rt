@@ -3,6 +3,7 @@ use formula::way::Names;
 use refusal::fault::LineFault;
 use std::alloc::{AllocError, Global};
 
+// `written_cases` prints lists with a mark of its own for none; a library between two programs for a few lines is no plainer.
 fn list(out: &mut String, names: &Names<'_>) -> Result<(), AllocError> {
     for (i, name) in names.iter().enumerate() {
         if i > 0 {

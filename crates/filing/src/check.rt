@@ -21,6 +21,7 @@ fn judge<D: Dictionary>(choices: Choices<D>, links: &[Link]) -> Result<usize, Re
 }
 
 /// How many parts a filing has, or the refusal of the first test that it fails.
+// What callers hold is given as it is; within, it is `Choices` at once.
 pub fn check<D: Dictionary>(
     dictionary: &D,
     rows: &Rows,

@@ -8,6 +8,7 @@ use crate::page::LIMIT;
 pub mod ask;
 
 /// A dictionary that is written: it only answers. A draft is read as one, and becomes one when it is closed.
+// A page has the same fields over a table that it borrows to write; no type is generic over how it borrows.
 #[derive(Drop)]
 pub struct Written<'t> {
     pub(crate) table: &'t [u16],

@@ -16,7 +16,8 @@ fn refused(heap: Global, fault: LineFault) -> Result<String, AllocError> {
     format!(in heap; "no {number} {place}")
 }
 
-/// Adds the names of a list.
+/// Adds the names of a list, or `-` where there are none.
+// `dictionary_tests` prints lists in its own form; a library between two programs for a few lines is no plainer.
 fn add_names(out: &mut String, names: &Names<'_>) -> Result<(), AllocError> {
     if names.is_empty() {
         out.push('-')?;
