@@ -1,5 +1,5 @@
 -- What words, names and connectors take, one by one and in all.
-use Rattle.std.proofs.Common.{◌≡◌, ℕ, suc, ◌+◌, ◌*◌, ◌≤◌, true, ◌&&◌, eqb, ltb, leb, List, [], ◌∷◌, ◌++◌, length, get_or, map, refl, sym, mul-suc, arith, length-append, leb-true}
+use Rattle.std.proofs.Common.{◌≡◌, ℕ, suc, ◌+◌, ◌*◌, ◌≤◌, true, ◌&&◌, eqb, ltb, leb, List, [], ◌∷◌, ◌++◌, length, get_or, map, refl, sym, ap, ◌∙◌, mul-suc, arith, length-append, leb-true}
 use denote.Ref.{Bor}
 use lib.ListN.{length-map}
 use Rattle.std.specs.List.{list_any, sum_by}
@@ -15,6 +15,7 @@ use Rattle.written.specs.Costs.{each_takes}
 use Rattle.written.specs.Lines.{every, good_word}
 use Rattle.written.specs.Model.{mentioned}
 use Rattle.written.specs.Store.{lent, word_cells}
+use Rattle.written.proofs.Noted.{mentioned_push}
 
 pub takes_split : (n : ℕ) (ws : List (List ℕ)) → each_takes n ws ≡ n * length ws + length (word_cells ws)
 unfolding each_takes word_cells
@@ -39,6 +40,12 @@ takes_few (w ∷ ws) h =
     in omega arith
 
 -- Connectors are counted disjunct by disjunct, and the cells of names name by name.
+pub mentioned_count : (ds : List (Disjunct Name)) (d : Disjunct Name) →
+    length (mentioned (ds ++ (d ∷ []))) ≡ length (mentioned ds) + (length d.left + length d.right)
+mentioned_count ds d =
+    ap length (mentioned_push ds d) ∙ length-append (mentioned ds) (d.left ++ d.right)
+    ∙ ap (λ n. length (mentioned ds) + n) (length-append d.left d.right)
+
 pub mentioned_sum : (ts : List Kept) → sum_by (λ (d : Kept). length d.left.items + length d.right.items) ts ≡ length (mentioned (map disjunct_of ts))
 unfolding mentioned
 mentioned_sum ts = sym (is_sum_by (λ ds. length (mentioned (map disjunct_of ds))) (λ (d : Kept). length d.left.items + length d.right.items) refl step ts)

@@ -3,7 +3,7 @@ use Rattle.std.proofs.Common.{◌≡◌, ℕ, zero, suc, ◌+◌, ◌<◌, ◌�
 use lib.ListN.{length-map}
 use Rattle.std.specs.List.{position_from, range_with_len}
 use Rattle.std.proofs.lemmas.List.{get_or-take, get_or-drop, get_or-map, drop_more, drop_all, drop-drop, take-append-drop, length-take-le}
-use Rattle.std.proofs.lemmas.Bool.{cases_Bool, true≢false, false≢true}
+use Rattle.std.proofs.lemmas.Bool.{cond-true, cond-false, cases_Bool, true≢false, false≢true}
 use Rattle.formula.specs.Tokens.{Name}
 use Rattle.written.specs.Kept.{getD_counted, length_counted}
 use Rattle.written.specs.Matching.{same}
@@ -99,6 +99,28 @@ placed_among (e ∷ es) w k =
         is_some (cond t (Some k) (position_from (λ (x : Entry). same x.word w) (k + 1) es)) ≡ (t || among w (map (λ (x : Entry). x.word) es))
     by_first true h = refl
     by_first false h = h
+
+-- Looking for a word, entry by entry.
+module _ (es : List Entry) (w : List ℕ) (k : ℕ) where
+  next_entry : k < length es → find_from k (drop k es) w
+      ≡ cond (same (get_or es k no_entry).word w) k (find_from (k + 1) (drop (k + 1) es) w)
+  unfolding find_from
+  next_entry h =
+      let e : suc k ≡ k + 1 = omega arith in
+      ap (λ l. find_from k l w) (drop_more es k no_entry h)
+      ∙ ap (λ j. cond (same (get_or es k no_entry).word w) k (find_from j (drop (k + 1) es) w)) e
+
+  pub find_skip : k < length es → same (get_or es k no_entry).word w ≡ false →
+      find_from (k + 1) (drop (k + 1) es) w ≡ find_from k (drop k es) w
+  find_skip h f =
+      sym (next_entry h ∙ cond-false (same (get_or es k no_entry).word w) k (find_from (k + 1) (drop (k + 1) es) w) f)
+
+  pub find_here : k < length es → same (get_or es k no_entry).word w ≡ true → find_from k (drop k es) w ≡ k
+  find_here h t = next_entry h ∙ cond-true (same (get_or es k no_entry).word w) k (find_from (k + 1) (drop (k + 1) es) w) t
+
+  pub find_none : length es ≤ k → find_from k (drop k es) w ≡ 65535
+  unfolding find_from
+  find_none h = ap (λ l. find_from k l w) (drop_all k es h)
 
 -- Looking for a name, cell by cell.
 module _ (F : List ℕ) (n : Name) (p : ℕ) where

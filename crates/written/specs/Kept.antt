@@ -81,7 +81,7 @@ module _ {A B : Type 0} (f : A → B) where
   length_renamed ds k t = ap length (list_renamed ds k t) ∙ length-map (side_of (slice_index_or ds k free) t) f
 
 -- The number of a name is a place of the front.
-number_small : (q : ℕ) (F : List ℕ) (n : Name) → q + length F ≤ 65535 → number_of (names_from q F) n < 2 ^ 16
+pub number_small : (q : ℕ) (F : List ℕ) (n : Name) → q + length F ≤ 65535 → number_of (names_from q F) n < 2 ^ 16
 unfolding names_from number_of
 number_small q [] n h = lit< tt
 number_small q (c ∷ cs) n h =

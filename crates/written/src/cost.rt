@@ -31,7 +31,7 @@ fn name_cells(fresh: &Fresh) -> usize
 
 /// How many cells some words take.
 fn word_cells(words: &[u8]) -> usize
-    requires { (every good_word (pieces 32 words.now) ≡ true) × (length (pieces 32 words.now) ≤ 256) }
+    requires { each_takes 4 (pieces 32 words.now) ≤ 7168 }
     ensures value { result ≡ each_takes 4 (pieces 32 words.now) }
     ensures bound { result ≤ 7168 }
 {

@@ -37,10 +37,8 @@ fn has_name(front: &[u16], at: usize, name: &[u8]) -> bool
 }
 
 /// The number of a name, which is the place of its mark, where a front has it.
-pub(crate) fn number(front: &[u16], name: &[u8]) -> Option<u16>
-    requires { length front.now ≤ 65535 }
+pub(crate) fn number(front: &[u16], name: &[u8]) -> Option<usize>
     ensures { result ≡ lookup (names_from 0 front.now) name.now }
 {
-    let found = (0..front.len()).position(|at| has_name(front, at, name))?;
-    Some(found as u16)
+    (0..front.len()).position(|at| has_name(front, at, name))
 }

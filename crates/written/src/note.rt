@@ -14,7 +14,6 @@ pub(crate) type Fresh<'a> = ArrayVec<&'a [u8], 1024>;
 
 /// Whether a front has a name or it was noted before.
 fn met(front: &[u16], fresh: &[&[u8]], name: &[u8]) -> bool
-    requires { length front.now ≤ 65535 }
     ensures { result ≡ among name.now (known front.now ++ lent fresh.now) }
 {
     number(front, name).is_some() || fresh.contains(&name)
@@ -22,7 +21,6 @@ fn met(front: &[u16], fresh: &[&[u8]], name: &[u8]) -> bool
 
 /// Notes the names of a list, each unless it was met.
 fn note_list<'a>(front: &[u16], names: &[&'a [u8]], fresh: &mut Fresh<'a>)
-    requires small { length front.now ≤ 65535 }
     requires room { length fresh.old.items + length names.now ≤ 1024 }
     ensures names { names_of fresh.new ≡ names_of fresh.old ++ unmet (known front.now ++ names_of fresh.old) (lent names.now) }
     ensures longer { length fresh.new.items ≤ length fresh.old.items + length names.now }
@@ -36,7 +34,6 @@ fn note_list<'a>(front: &[u16], names: &[&'a [u8]], fresh: &mut Fresh<'a>)
 
 /// The names of some disjuncts that a front does not have, each once.
 pub(crate) fn fresh_names<'a>(front: &[u16], disjuncts: &Disjuncts<'a>) -> Fresh<'a>
-    requires { length front.now ≤ 65535 }
     ensures { names_of result ≡ unmet (known front.now) (mentioned (disjuncts_of disjuncts.now)) }
 {
     let mut fresh = Fresh::new();

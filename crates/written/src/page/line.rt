@@ -51,10 +51,11 @@ impl<'t> Page<'t> {
         requires { block ≤ limit self.now.table.now }
         ensures { result ≡ number_of (names_from 0 (take block self.now.table.now)) name.now }
     {
-        number(&self.table[..block], name).unwrap_or(0)
+        number(&self.table[..block], name).unwrap_or(0) as u16
     }
 
     /// Writes the number of each name of a list, looked up in the first cells.
+    // That the block begins within what is used is a fact of a page and a place, and the page grows: so no type of one of them carries it.
     fn write_list(&mut self, names: &[&[u8]], block: usize)
         requires { (taken self.old.used self.old.words + length names.now ≤ limit self.old.table.now) × (block ≤ self.old.used) }
         ensures { Appended self.old self.new (map (number_of (names_from 0 (take block self.old.table.now))) (lent names.now)) }

@@ -1,4 +1,4 @@
-use Rattle.std.proofs.Common.{◌≡◌, ℕ, ◌+◌, ◌&&◌, eqb, length, None, sym, ◌∙◌, arith, rules, tests}
+use Rattle.std.proofs.Common.{◌≡◌, ℕ, ◌+◌, ◌&&◌, eqb, length, ◌∙◌, arith, rules, tests}
 use Rattle.std.specs.List.{range_with_len}
 use Rattle.std.proofs.lemmas.Iterator.{YieldsList-from_range}
 use Rattle.std.proofs.lemmas.Iterator.Search.{position_from_yields_List}
@@ -11,21 +11,10 @@ use Rattle.written.proofs.front.number.Goals as goal
 from_zero : (n : ℕ) → 0 + n ≡ n
 from_zero n = omega arith
 
-pub returns-in_err-found : goal.returns-in_err-found
-returns-in_err-found c =
-    let F = c.args.front.now in
-    let n = c.args.name.now in
-    let none : c.from_residual.result ≡ None = search rules in
-    none ∙ sym c.in_err-found.was
-    ∙ position_from_yields_List (λ q. eqb (cell F q) 65535 && same (name_at F q) n) _ _ _ c.position.ensures.ran (YieldsList-from_range 0 (length F) (length F) (cc) (omega arith)) (λ x b q k. search (rules, tests))
-    ∙ position_from-zero (λ q. eqb (cell F q) 65535 && same (name_at F q) n) (range_with_len 0 (length F))
-    ∙ name_searched F n (length F) 0 (from_zero (length F))
-
 pub returns : goal.returns
 returns c =
     let F = c.args.front.now in
     let n = c.args.name.now in
-    sym c.in_ok-found.was
-    ∙ position_from_yields_List (λ q. eqb (cell F q) 65535 && same (name_at F q) n) _ _ _ c.position.ensures.ran (YieldsList-from_range 0 (length F) (length F) (cc) (omega arith)) (λ x b q k. search (rules, tests))
+    position_from_yields_List (λ q. eqb (cell F q) 65535 && same (name_at F q) n) _ _ _ c.position.ensures.ran (YieldsList-from_range 0 (length F) (length F) (cc) (omega arith)) (λ x b q k. search (rules, tests))
     ∙ position_from-zero (λ q. eqb (cell F q) 65535 && same (name_at F q) n) (range_with_len 0 (length F))
     ∙ name_searched F n (length F) 0 (from_zero (length F))
