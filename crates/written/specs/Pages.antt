@@ -30,6 +30,13 @@ abbrev pub Inside : List ℕ → ℕ → Type 0
 Inside table a =
     (a + 3 ≤ length table) × (slice_index table (a + 2) + slice_index table a + slice_index table (a + 1) ≤ length table)
 
+-- So many cells more fit on a page; and, where a block is begun, it begins within what is written.
+abbrev pub HasRoom : Page → ℕ → Type 0
+HasRoom p k = taken p.used p.words + k ≤ limit p.table.now
+
+abbrev pub HasRoomBehind : Page → (block k : ℕ) → Type 0
+HasRoomBehind p block k = HasRoom p k × (block ≤ p.used)
+
 -- What a page holds, and what a store is with cells more at its front and rows more.
 unfoldable pub page_store : Page → Store
 page_store p = store p.table.now p.used p.words

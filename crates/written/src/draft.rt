@@ -67,11 +67,13 @@ impl<'t> Draft<'t> {
         ensures numbers { OneNumber (model (drafted self.new)).names }
         ensures cells { cells_of self.new ≡ cells_of self.old }
     {
+        // No function can hand out the pieces of a slice, so whoever goes over lines cuts them.
         if text.is_empty() {
             return Ok(());
         }
         let lines = unended(text).split(|b| *b == b'\n');
         for (before, line) in lines.enumerate() {
+            // Here alone a fault gets its line.
             self.line(line).map_err(|e| Fault {
                 line: before + 1,
                 place: e.place,

@@ -40,7 +40,7 @@ impl Letter for u16 {
 fn is_capital(letter: u16) -> bool
     ensures { result ≡ capital letter }
 {
-    letter >= 65 && letter <= 90
+    matches!(letter, 65..=90)
 }
 
 /// How many capitals a name begins with.

@@ -16,12 +16,12 @@ pub struct Page<'t> {
 
 impl<'t> Page<'t> {
     ghost use Rattle.std.specs.Prelude.{◌+◌, ◌<◌, ◌≤◌, [], ◌∷◌, length};
-    ghost use Rattle.written.specs.Pages.{Appended, Extended, limit, taken};
+    ghost use Rattle.written.specs.Pages.{Appended, Extended, HasRoom};
     ghost use Rattle.written.specs.Store.{name_cells};
 
     /// Writes a cell behind the front.
     pub(crate) fn push(&mut self, cell: u16)
-        requires { taken self.old.used self.old.words < limit self.old.table.now }
+        requires { HasRoom self.old 1 }
         ensures { Appended self.old self.new (cell ∷ []) }
     {
         let at = self.used;
@@ -31,7 +31,7 @@ impl<'t> Page<'t> {
 
     /// Writes the row of a word before those of the words before it.
     pub(crate) fn push_row(&mut self, word: u16, len: u16, block: u16)
-        requires { taken self.old.used self.old.words + 4 ≤ limit self.old.table.now }
+        requires { HasRoom self.old 4 }
         ensures { Extended self.old self.new [] (record { word = word; length_of = len; block = block } ∷ []) }
     {
         let words = self.words;
@@ -45,7 +45,7 @@ impl<'t> Page<'t> {
 
     /// Writes bytes behind the front, a cell for each.
     pub(crate) fn push_bytes(&mut self, bytes: &[u8])
-        requires { taken self.old.used self.old.words + length bytes.now ≤ limit self.old.table.now }
+        requires { HasRoom self.old (length bytes.now) }
         ensures { Appended self.old self.new bytes.now }
     {
         for b in bytes {
@@ -55,7 +55,7 @@ impl<'t> Page<'t> {
 
     /// Writes a name behind the front: a mark, its length and its bytes.
     pub(crate) fn push_name(&mut self, name: &[u8])
-        requires { taken self.old.used self.old.words + 2 + length name.now ≤ limit self.old.table.now }
+        requires { HasRoom self.old (2 + length name.now) }
         ensures { Appended self.old self.new (name_cells name.now) }
     {
         self.push(MARK);

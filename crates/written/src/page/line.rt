@@ -3,7 +3,7 @@ ghost use Rattle.formula.specs.Shown.{disjunct_of, disjuncts_of};
 ghost use Rattle.written.specs.Costs.{line_cost};
 ghost use Rattle.written.specs.Lines.{pieces};
 ghost use Rattle.written.specs.Model.{fresh as unmet, mentioned, number_of};
-ghost use Rattle.written.specs.Pages.{Appended, Extended, limit, page_store, taken};
+ghost use Rattle.written.specs.Pages.{Appended, Extended, HasRoom, HasRoomBehind, limit, page_store, taken};
 ghost use Rattle.written.specs.Store.{all_name_cells, block_cells, connectors, heads, lent, names_from, names_of as known_names, numbered, with_line, word_cells, word_rows};
 
 use crate::front::number;
@@ -13,7 +13,7 @@ use formula::way::{Disjunct, Disjuncts};
 impl<'t> Page<'t> {
     /// Writes the names that were noted.
     fn write_names(&mut self, fresh: &[&[u8]])
-        requires { taken self.old.used self.old.words + length (all_name_cells (lent fresh.now)) ≤ limit self.old.table.now }
+        requires { HasRoom self.old (length (all_name_cells (lent fresh.now))) }
         ensures { Appended self.old self.new (all_name_cells (lent fresh.now)) }
     {
         for name in fresh {
@@ -23,7 +23,7 @@ impl<'t> Page<'t> {
 
     /// Writes the three cells of a disjunct: the lengths of its lists, and where its connectors begin.
     fn push_head(&mut self, left: u16, right: u16, at: u16)
-        requires { taken self.old.used self.old.words + 3 ≤ limit self.old.table.now }
+        requires { HasRoom self.old 3 }
         ensures { Appended self.old self.new (left ∷ right ∷ at ∷ []) }
     {
         self.push(left);
@@ -34,7 +34,7 @@ impl<'t> Page<'t> {
     /// Writes the three cells of each disjunct, where the connectors of the first begin at a place. Of the lists only their
     /// lengths count, so the connectors may have any numbers.
     fn write_heads(&mut self, disjuncts: &[Disjunct], from: usize)
-        requires room { taken self.old.used self.old.words + 3 * length disjuncts.now ≤ limit self.old.table.now }
+        requires room { HasRoom self.old (3 * length disjuncts.now) }
         requires small { from + length (mentioned (map disjunct_of disjuncts.now)) ≤ 65535 }
         ensures { Appended self.old self.new (heads from (numbered [] (map disjunct_of disjuncts.now))) }
     {
@@ -55,9 +55,8 @@ impl<'t> Page<'t> {
     }
 
     /// Writes the number of each name of a list, looked up in the first cells.
-    // That the block begins within what is used is a fact of a page and a place, and the page grows: so no type of one of them carries it.
     fn write_list(&mut self, names: &[&[u8]], block: usize)
-        requires { (taken self.old.used self.old.words + length names.now ≤ limit self.old.table.now) × (block ≤ self.old.used) }
+        requires { HasRoomBehind self.old block (length names.now) }
         ensures { Appended self.old self.new (map (number_of (names_from 0 (take block self.old.table.now))) (lent names.now)) }
     {
         for name in names {
@@ -68,7 +67,7 @@ impl<'t> Page<'t> {
 
     /// Writes the numbers of the connectors of each disjunct, first those of its left list.
     fn write_connectors(&mut self, disjuncts: &[Disjunct], block: usize)
-        requires { (taken self.old.used self.old.words + length (mentioned (map disjunct_of disjuncts.now)) ≤ limit self.old.table.now) × (block ≤ self.old.used) }
+        requires { HasRoomBehind self.old block (length (mentioned (map disjunct_of disjuncts.now))) }
         ensures { Appended self.old self.new (connectors (numbered (take block self.old.table.now) (map disjunct_of disjuncts.now))) }
     {
         for one in disjuncts {
@@ -79,7 +78,7 @@ impl<'t> Page<'t> {
 
     /// Writes a block of disjuncts, whose names the front has.
     fn write_block(&mut self, disjuncts: &[Disjunct])
-        requires { taken self.old.used self.old.words + (4 + 3 * length disjuncts.now + length (mentioned (map disjunct_of disjuncts.now))) ≤ limit self.old.table.now }
+        requires { HasRoom self.old (4 + 3 * length disjuncts.now + length (mentioned (map disjunct_of disjuncts.now))) }
         ensures { Appended self.old self.new (block_cells self.old.used (numbered (page_store self.old).front (map disjunct_of disjuncts.now))) }
     {
         let block = self.used;
@@ -91,7 +90,7 @@ impl<'t> Page<'t> {
 
     /// Writes a word and its row.
     fn write_word(&mut self, word: &[u8], block: usize)
-        requires { (taken self.old.used self.old.words + length word.now + 4 ≤ limit self.old.table.now) × (block ≤ self.old.used) }
+        requires { HasRoomBehind self.old block (length word.now + 4) }
         ensures { Extended self.old self.new word.now (record { word = self.old.used; length_of = length word.now; block = block } ∷ []) }
     {
         let at = self.used;
@@ -101,7 +100,7 @@ impl<'t> Page<'t> {
 
     /// Writes words, parted by single spaces, and their rows.
     fn write_words(&mut self, words: &[u8], block: usize)
-        requires { (taken self.old.used self.old.words + length (word_cells (pieces 32 words.now)) + 4 * length (pieces 32 words.now) ≤ limit self.old.table.now) × (block ≤ self.old.used) }
+        requires { HasRoomBehind self.old block (length (word_cells (pieces 32 words.now)) + 4 * length (pieces 32 words.now)) }
         ensures { Extended self.old self.new (word_cells (pieces 32 words.now)) (word_rows self.old.used block (pieces 32 words.now)) }
     {
         for word in words.split(|b| *b == b' ') {
@@ -112,7 +111,7 @@ impl<'t> Page<'t> {
     /// Writes a line: the names that it brings, the block of its disjuncts, and its words.
     pub(crate) fn write_line(&mut self, words: &[u8], disjuncts: &Disjuncts, fresh: &[&[u8]])
         requires names { lent fresh.now ≡ unmet (known_names (page_store self.old)) (mentioned (disjuncts_of disjuncts.now)) }
-        requires room { taken self.old.used self.old.words + line_cost (pieces 32 words.now) (disjuncts_of disjuncts.now) (lent fresh.now) ≤ limit self.old.table.now }
+        requires room { HasRoom self.old (line_cost (pieces 32 words.now) (disjuncts_of disjuncts.now) (lent fresh.now)) }
         ensures store { page_store self.new ≡ with_line (page_store self.old) (pieces 32 words.now) (disjuncts_of disjuncts.now) }
         ensures len { length self.new.table.now ≡ length self.old.table.now }
         ensures taken { taken self.new.used self.new.words ≡ taken self.old.used self.old.words + line_cost (pieces 32 words.now) (disjuncts_of disjuncts.now) (lent fresh.now) }

@@ -8,7 +8,7 @@ unfolding page_store
 returns c =
     let p = c.args.self.now in
     record {
-      store = cell_store p.table.now p.used p.words c.args.cell c.requires;
+      store = cell_store p.table.now p.used p.words c.args.cell (omega (arith, c.requires));
       len = length-set p.table.now p.used c.args.cell;
       used = refl;
       words = omega arith;

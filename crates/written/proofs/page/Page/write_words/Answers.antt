@@ -12,9 +12,9 @@ write_word-requires c =
     let n = length c.loop-word.yielded in
     let t = YieldsList-turn (yields_pieces _ 32 c.args.words.now (cc) (cc) (cc) (λ x b q k. search (rules, tests))) c.loop-word.yielded _ c.loop-word.yielded_by _ _ c.in-Some.word c.in-Some.is c.next.ensures.steps in
     let inv = c.loop-word.invariant in
-    let left = worded_room c.args.self.now c.args.block ps c.loop-word.self (drop n ps) (drop (n + 1) ps) c.in-Some.word.now inv (piece_here ps n _ t) c.requires.0
+    let left = worded_room c.args.self.now c.args.block ps c.loop-word.self (drop n ps) (drop (n + 1) ps) c.in-Some.word.now inv (piece_here ps n _ t) (omega (arith, c.requires.0))
     in let u = inv.adds in
-    (left, omega (arith, c.requires.1))
+    (omega (arith, left), omega (arith, c.requires.1))
 
 pub loop-word-preserved : goal.loop-word-preserved
 loop-word-preserved c =
