@@ -3,7 +3,7 @@ ghost use Rattle.written.specs.Pages.{limit, store, taken};
 ghost use Rattle.written.specs.Store.{Whole};
 
 use crate::front::{MARK, letters, spells};
-use crate::page::LIMIT;
+use crate::page::limit;
 
 pub mod ask;
 
@@ -81,7 +81,7 @@ impl<'t> Written<'t> {
         ensures value { result ≡ row_place self.now.table.now word }
         ensures inside { result + 4 ≤ length self.now.table.now }
     {
-        self.table.len().min(LIMIT) - 4 * (word + 1)
+        limit(self.table.len()) - 4 * (word + 1)
     }
 
     /// The bytes of a word, one to a cell.
@@ -116,6 +116,6 @@ impl<'t> Written<'t> {
     pub(crate) fn room(&self) -> usize
         ensures { result ≡ limit self.now.table.now - spent self.now }
     {
-        self.table.len().min(LIMIT) - self.cells()
+        limit(self.table.len()) - self.cells()
     }
 }

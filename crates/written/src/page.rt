@@ -1,9 +1,18 @@
+ghost use Rattle.std.specs.Prelude.{◌≡◌, min};
+
 use crate::front::MARK;
 
 pub mod line;
 
 /// Of a table at most so many cells are used.
-pub(crate) const LIMIT: usize = 65535;
+const LIMIT: usize = 65535;
+
+/// How many cells of a table of some length are used at most.
+pub(crate) fn limit(len: usize) -> usize
+    ensures { result ≡ min len 65535 }
+{
+    len.min(LIMIT)
+}
 
 /// The lent table and how much of it is written: cells from the front, and a row of four cells for each word at the back.
 // The table is all the memory there is, and it fills from both ends: so two counts stand beside it and no Vec.
@@ -35,7 +44,7 @@ impl<'t> Page<'t> {
         ensures { Extended self.old self.new [] (record { word = word; length_of = len; block = block } ∷ []) }
     {
         let words = self.words;
-        let at = self.table.len().min(LIMIT) - 4 * (words + 1);
+        let at = limit(self.table.len()) - 4 * (words + 1);
         self.table[at] = word;
         self.table[at + 1] = len;
         self.table[at + 2] = block;
