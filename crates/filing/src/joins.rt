@@ -13,7 +13,7 @@ use rows::MOST_WORDS;
 #[derive(Drop)]
 pub(crate) struct Joins {
     labels: ArrayVec<usize, MOST_WORDS>,
-    // Kept as links come: to count the labels that differ would take a search for each.
+    // Kept as links come: to count the labels that differ is a second loop with its own proof, which is no plainer.
     pub(crate) parts: usize,
 }
 
@@ -35,7 +35,7 @@ impl Joins {
         ensures holds { Holds [] result }
         ensures count { array_vec_len result.labels ≡ count }
     {
-        // An ArrayVec is not collected from a range, so the labels are pushed.
+        // To collect or extend can fail, and this cannot: an error that never comes is no plainer.
         let mut labels = ArrayVec::new();
         for label in 0..count {
             labels.push(label);

@@ -44,6 +44,7 @@ impl Rows {
     }
 
     /// How many disjuncts of the word at a position are neither struck nor marked.
+    // Lent, as the rows are to hold no dictionary.
     pub fn standing<D: Dictionary>(&self, dictionary: &D, position: usize) -> Result<usize, Refusal>
         ensures { result ≡ standing_of (D.meaning dictionary.now) (ledger_of self.now) (marks_of self.now) position }
     {
