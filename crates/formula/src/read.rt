@@ -194,7 +194,7 @@ fn formula_at<'a>(rest: Rest<'a>, depth: Depth) -> Result<Reading<'a>, LineFault
 pub fn parse<'a>(formula: &'a [u8]) -> Result<Ways<'a>, LineFault>
     ensures { Parsed formula.now result }
 {
-    let whole = formula_at(Rest::of(formula), Depth::top())?;
+    let whole = formula_at(Rest::from(formula), Depth::top())?;
     match whole.rest.next()? {
         None => Ok(whole.ways),
         Some(placed) => Err(LineFault {
