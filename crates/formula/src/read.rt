@@ -10,6 +10,8 @@ use crate::way::Ways;
 use refusal::Refusal;
 use refusal::fault::LineFault;
 
+// Three types: what was read has no mark, a row may have one, and what follows has one. One type over the mark would say `()` for none, which is no plainer.
+
 /// What was read, and what is left behind it.
 #[derive(Drop)]
 pub struct Reading<'a> {
