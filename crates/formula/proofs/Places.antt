@@ -59,7 +59,8 @@ module _ (p : ℕ) where
 
   a_token : (xs : List ℕ) (w : Word) → 0 < length xs → (get_or xs 0 0 ≡ 32 → ⊥) →
       token_at (get_or xs 0 0) (drop 1 xs) ≡ Ok w →
-      cut_after 0 p xs ≡ token p w (cut_after 0 (p + length (spelled w)) (drop (length (spelled w)) xs))
+      (length (spelled w) ≤ length xs)
+      × (cut_after 0 p xs ≡ token p w (cut_after 0 (p + length (spelled w)) (drop (length (spelled w)) xs)))
   a_token [] w h n e = absurd (omega arith)
   a_token (b ∷ bs) w h n e =
       let some = spelled_some w in
@@ -68,10 +69,12 @@ module _ (p : ℕ) where
       let k = ap length q ∙ length-append (spelled w) rest in
       let fits : m ≤ length bs = omega arith in
       let at : suc p + m ≡ p + length (spelled w) = omega arith in
-      let s : suc m ≡ length (spelled w) = omega arith in
-      front b bs n ∙ ap (λ t. placed p t (λ w. cut_after (pred (length (spelled w))) (suc p) bs)) e
-      ∙ ap (token p w) (cut_skip m (suc p) bs fits ∙ ap (λ a. cut_after 0 a (drop m bs)) at
-      ∙ ap (λ j. cut_after 0 (p + length (spelled w)) (drop j (b ∷ bs))) s)
+      let s : suc m ≡ length (spelled w) = omega arith in (
+        omega arith,
+        front b bs n ∙ ap (λ t. placed p t (λ w. cut_after (pred (length (spelled w))) (suc p) bs)) e
+            ∙ ap (token p w) (cut_skip m (suc p) bs fits ∙ ap (λ a. cut_after 0 a (drop m bs)) at
+            ∙ ap (λ j. cut_after 0 (p + length (spelled w)) (drop j (b ∷ bs))) s),
+      )
 
   -- The same of what was found there, once it has its place.
   module _ (xs : List ℕ) (some : 0 < length xs) (stops : get_or xs 0 0 ≡ 32 → ⊥) where
@@ -82,6 +85,7 @@ module _ (p : ℕ) where
 
     pub token_there : (t : Result Token Refusal) (k : Token) → token_at (get_or xs 0 0) (drop 1 xs) ≡ said_there t →
         Ok k ≡ carried (fault p) t →
-        cut_after 0 p xs ≡ token p (said k) (cut_after 0 (p + length (spelled (said k))) (drop (length (spelled (said k))) xs))
+        (length (spelled (said k)) ≤ length xs)
+        × (cut_after 0 p xs ≡ token p (said k) (cut_after 0 (p + length (spelled (said k))) (drop (length (spelled (said k))) xs)))
     token_there (Ok l) k s e = let g : l ≡ k = cc in a_token xs (said k) some stops (s ∙ ap (λ (m : Token). Ok (said m)) g)
     token_there (Err r) k s e = let z : ◌≡◌ {A = ℕ} 0 1 = cc in absurd (omega arith)

@@ -11,7 +11,7 @@ use Rattle.formula.specs.declared.token.Bracket.TheVariants.{Round, Brace}
 use Rattle.formula.specs.Cuts.{Cut, ends, fails, token}
 use Rattle.refusal.specs.Faults.{fault}
 use Rattle.formula.specs.Formulas.{Formula, one, row, Item, named, within, empty, items_in}
-use Rattle.formula.specs.Progress.{goes, joined_by, Stopped, Unclosed, NoPair, NotEmpty}
+use Rattle.formula.specs.Progress.{goes, joined_by, Stopped, Unclosed, NoPair}
 use Rattle.formula.specs.Reading.{Before, nothing, after, Open, top, inside, State, wants, has, add, close_empty, go_on}
 use Rattle.formula.specs.Reading.{open_depth, state_depth, judged, read}
 use Rattle.formula.specs.Tokens.{Name, Word, mark, open_with, close_with, connector}
@@ -64,16 +64,6 @@ pub empty_there : (b : Before) (o : Open) (c : Cut) (p : ℕ) (rest : Cut) → c
 unfolding read
 empty_there b o c p rest e h =
     ap (read (wants nothing (inside Round b o))) e ∙ shallow p (has (add b empty) o) (λ t. read t rest) h
-
-pub no_pair_inside : (b : Before) (o : Open) (k : Bracket) (c : Cut) → NotEmpty k c → NoPair nothing (inside k b o) c
-no_pair_inside b o k (ends p) n = tt
-no_pair_inside b o k (fails p r) n = tt
-no_pair_inside b o k (token p (mark j) c) n = tt
-no_pair_inside b o k (token p (open_with l) c) n = tt
-no_pair_inside b o Round (token p (close_with Round) c) n = absurd n
-no_pair_inside b o Round (token p (close_with Brace) c) n = refl
-no_pair_inside b o Brace (token p (close_with l) c) n = refl
-no_pair_inside b o k (token p (connector s m) c) n = tt
 
 -- Where no empty pair can be: at the top, and behind a mark.
 abbrev Never : Before → Open → Type 0

@@ -10,6 +10,8 @@ use crate::way::Ways;
 use refusal::Refusal;
 use refusal::fault::LineFault;
 
+// Three types: what was read has no mark, a row may have one, and what follows has one. One type over the mark would say `()` for none, which is no plainer.
+
 /// What was read, and what is left behind it.
 #[derive(Drop)]
 pub struct Reading<'a> {
@@ -194,7 +196,7 @@ fn formula_at<'a>(rest: Rest<'a>, depth: Depth) -> Result<Reading<'a>, LineFault
 pub fn parse<'a>(formula: &'a [u8]) -> Result<Ways<'a>, LineFault>
     ensures { Parsed formula.now result }
 {
-    let whole = formula_at(Rest::of(formula), Depth::top())?;
+    let whole = formula_at(Rest::from(formula), Depth::top())?;
     match whole.rest.next()? {
         None => Ok(whole.ways),
         Some(placed) => Err(LineFault {

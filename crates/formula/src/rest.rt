@@ -18,19 +18,23 @@ pub struct Placed<'a> {
     pub rest: Rest<'a>,
 }
 
-impl<'a> Rest<'a> {
-    ghost use Rattle.std.specs.Prelude.{◌≡◌, ◌≤◌, drop};
+impl<'a> From<&'a [u8]> for Rest<'a> {
+    ghost use Rattle.std.specs.Prelude.{◌≡◌};
     ghost use Rattle.formula.specs.Cuts.{cut, cut_rest};
 
+    ghost from_gives = { λ formula rest. cut_rest rest ≡ cut formula.now };
+
     /// The whole of a formula.
-    pub(crate) fn of(formula: &'a [u8]) -> Rest<'a>
-        ensures { cut_rest result ≡ cut formula.now }
-    {
+    fn from(formula: &'a [u8]) -> Rest<'a> {
         Rest {
             bytes: formula,
             place: 0,
         }
     }
+}
+
+impl<'a> Rest<'a> {
+    ghost use Rattle.std.specs.Prelude.{◌≡◌, ◌≤◌, drop};
 
     /// What is left behind so many bytes more.
     pub(crate) fn skip(self, count: usize) -> Rest<'a>

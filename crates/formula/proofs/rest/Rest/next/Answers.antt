@@ -34,8 +34,8 @@ returns-clause-cuts c =
     let here : cut_rest r.result ≡ cut_after 0 (f.result.place + length (spelled (said c.in_ok-token.token))) (drop (length (spelled (said c.in_ok-token.token))) f.result.bytes.now) =
     ap (λ p. cut_after 0 p r.result.bytes.now) (r.ensures.place ∙ ap (λ k. f.result.place + k) c.len.ensures)
     ∙ ap (cut_after 0 _) (r.ensures.bytes ∙ ap (λ k. drop k f.result.bytes.now) c.len.ensures) in
-    f.ensures.cuts ∙ token_there f.result.place f.result.bytes.now some (f.ensures.stops some) c.token.result c.in_ok-token.token
-    c.token.ensures.says (sym c.in_ok-token.was ∙ m)
+    f.ensures.cuts ∙ (token_there f.result.place f.result.bytes.now some (f.ensures.stops some) c.token.result c.in_ok-token.token
+    c.token.ensures.says (sym c.in_ok-token.was ∙ m)).1
     ∙ ap (token f.result.place (said c.in_ok-token.token)) (sym here)
 
 pub returns-clause-on : goal.returns-clause-on
