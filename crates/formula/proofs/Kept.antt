@@ -1,10 +1,10 @@
 -- Ways that are kept once, step by step.
-use Rattle.std.proofs.Common.{◌≡◌, ℕ, ◌≤◌, Bool, true, false, cond, ◌&&◌, ◌||◌, List, [], ◌∷◌, map, length, Some, None, Ok, Err, fold, Option, Result, refl, sym, ap, ◌∙◌, ap₂, arith}
+use Rattle.std.proofs.Common.{◌≡◌, ℕ, Bool, true, false, cond, ◌&&◌, ◌||◌, List, [], ◌∷◌, map, length, Some, None, Ok, Err, fold, Option, Result, refl, sym, ap, ◌∙◌, ap₂, arith}
 use Rattle.std.specs.Borrow.{Bor}
 use Rattle.std.specs.Cmp.Lexicographic.{pointwise}
 use Rattle.std.specs.List.{list_any}
+use Rattle.std.specs.Prelude.{nat_lt}
 use Rattle.std.specs.Str.{bytes_eq}
-use Rattle.std.proofs.lemmas.Bool.{le-ltb}
 use Rattle.arrayvec.specs.ArrayVec.{ArrayVec}
 use Rattle.refusal.specs.declared.Refusal.{Refusal}
 use Rattle.refusal.specs.declared.Refusal.TheVariants.{ManyWays, LongList}
@@ -36,8 +36,10 @@ there_shown d (e ∷ ds) =
 abbrev pub kept_of : List Way → List Way → Result (List Way) Refusal
 kept_of out ds = cond (some_long ds) (Err LongList) (Ok (fold keep out ds))
 
-pub fitted_few : (l : ArrayVec Made) (ds : List Way) → table l ≡ map clip ds → length l.items ≤ 64 → fitted ds ≡ kept_of [] ds
-fitted_few l ds e few = let n = length_shown l ds e in ap (λ b. cond b (Err ManyWays) (kept_of [] ds)) (le-ltb 64 (length ds) (omega arith))
+-- A table of few ways is not refused for how many they are: the program's has room for 64.
+pub fitted_few : (l : ArrayVec Made) (ds : List Way) → table l ≡ map clip ds →
+    fitted ds ≡ cond (nat_lt 64 (length l.items)) (Err ManyWays) (kept_of [] ds)
+fitted_few l ds e = ap (λ n. cond (nat_lt 64 n) (Err ManyWays) (kept_of [] ds)) (length_shown l ds e)
 
 -- The next way, if it is short enough.
 abbrev pub kept_next : Option Way → List Way → List Way → Result (List Way) Refusal
