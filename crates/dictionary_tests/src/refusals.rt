@@ -1,5 +1,5 @@
 use refusal::Refusal;
-use refusal::fault::Fault;
+use refusal::fault::{Fault, LineFault};
 use std::test::Fail;
 
 #[test]
@@ -29,6 +29,11 @@ fn prints_what_was_wrong(rt: HostRuntime) -> Result<(), Fail> {
     assert_eq!(rt;
         format!(in rt.alloc(); "{fault}")?.as_str(),
         "line 3, place 5: refused with 12: no token begins with this mark"
+    );
+    let of_line = LineFault { place: 5, refusal };
+    assert_eq!(rt;
+        format!(in rt.alloc(); "{of_line}")?.as_str(),
+        "place 5: refused with 12: no token begins with this mark"
     );
     Ok(())
 }

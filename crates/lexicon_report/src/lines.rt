@@ -3,6 +3,8 @@ ghost use Rattle.written.specs.Lines.{formula_part, lines};
 
 use written::line::unended;
 
+// Lines are cut in two functions, as no function can hand the iterator out: there is no impl Trait as a result.
+
 /// How many lines a text has.
 pub(crate) fn line_count(text: &[u8]) -> usize
     ensures { result ≡ length (lines text.now) }

@@ -23,52 +23,50 @@ fn write_letters(out: &mut Vec<u8>, cells: &[u16]) -> io::Result<()> {
     Ok(())
 }
 
-/// The names of the connectors of a list, the nearest first.
-fn write_list(
-    out: &mut Vec<u8>,
-    dictionary: &Written,
-    word: u16,
-    disjunct: usize,
-    side: Side,
-) -> io::Result<()> {
-    let len = dictionary.list_len(word, disjunct, side);
-    if len == 0 {
-        out.push(b'-')?;
-    }
-    // The dictionary is asked by number, so the loop goes over places and not over a list.
-    for place in 0..len {
-        if place > 0 {
-            out.push(b' ')?;
+/// Prints a dictionary.
+// A dictionary is asked by number, so the loops go over numbers and not over a list.
+#[derive(Drop)]
+struct Printer<'o, 'd, 't> {
+    out: &'o mut Vec<u8>,
+    dictionary: &'d Written<'t>,
+}
+
+impl<'o, 'd, 't> Printer<'o, 'd, 't> {
+    /// The names of the connectors of a list, the nearest first.
+    fn write_list(&mut self, word: u16, disjunct: usize, side: Side) -> io::Result<()> {
+        let len = self.dictionary.list_len(word, disjunct, side);
+        if len == 0 {
+            self.out.push(b'-')?;
         }
-        let number = dictionary.connector(word, disjunct, side, place);
-        write_letters(out, dictionary.name(number))?;
+        for place in 0..len {
+            if place > 0 {
+                self.out.push(b' ')?;
+            }
+            let number = self.dictionary.connector(word, disjunct, side, place);
+            write_letters(self.out, self.dictionary.name(number))?;
+        }
+        Ok(())
     }
-    Ok(())
-}
 
-fn write_disjunct(
-    out: &mut Vec<u8>,
-    dictionary: &Written,
-    word: u16,
-    disjunct: usize,
-) -> io::Result<()> {
-    out.push(b'\t')?;
-    write_list(out, dictionary, word, disjunct, Side::Left)?;
-    out.push(b'\t')?;
-    write_list(out, dictionary, word, disjunct, Side::Right)?;
-    out.push(b'\n')?;
-    Ok(())
-}
-
-fn write_word(out: &mut Vec<u8>, dictionary: &Written, word: u16) -> io::Result<()> {
-    let count = dictionary.disjuncts(word);
-    write!(out, "{word}\t")?;
-    write_letters(out, dictionary.word(word))?;
-    writeln!(out, "\t{count}")?;
-    for disjunct in 0..count {
-        write_disjunct(out, dictionary, word, disjunct)?;
+    fn write_disjunct(&mut self, word: u16, disjunct: usize) -> io::Result<()> {
+        self.out.push(b'\t')?;
+        self.write_list(word, disjunct, Side::Left)?;
+        self.out.push(b'\t')?;
+        self.write_list(word, disjunct, Side::Right)?;
+        self.out.push(b'\n')?;
+        Ok(())
     }
-    Ok(())
+
+    fn write_word(&mut self, word: u16) -> io::Result<()> {
+        let count = self.dictionary.disjuncts(word);
+        write!(self.out, "{word}\t")?;
+        write_letters(self.out, self.dictionary.word(word))?;
+        writeln!(self.out, "\t{count}")?;
+        for disjunct in 0..count {
+            self.write_disjunct(word, disjunct)?;
+        }
+        Ok(())
+    }
 }
 
 /// How many words there are, as a number of the kind that names a word.
@@ -94,15 +92,16 @@ pub(crate) fn write_dictionary(
     text: &[u8],
 ) -> io::Result<()> {
     let words = word_count(dictionary);
+    let mut printer = Printer { out, dictionary };
     for word in 0..words {
-        write_word(out, dictionary, word)?;
+        printer.write_word(word)?;
     }
     let lines = line_count(text);
     let disjuncts = disjunct_count(dictionary);
     let names = dictionary.name_count();
     let cells = dictionary.cells();
     writeln!(
-        out,
+        printer.out,
         "lines {lines}, words {words}, disjuncts {disjuncts}, names {names}, cells {cells}"
     )
 }

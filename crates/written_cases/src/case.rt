@@ -102,12 +102,12 @@ pub(crate) fn cases<'a>(heap: Global, text: &'a str) -> anyhow::Result<Vec<Case<
     Ok(cases)
 }
 
+/// A digit of hex in small letters: a capital is none.
 fn digit(b: u8) -> anyhow::Result<u8>
     ensures { IfOk result (λ d. d < 16) }
 {
-    match b {
-        b'0'..=b'9' => Ok(b - b'0'),
-        b'a'..=b'f' => Ok(b - b'a' + 10),
+    match char::from(b).to_digit(16) {
+        Some(digit) if !b.is_ascii_uppercase() => Ok(digit as u8),
         _ => Err(anyhow!("no digit")),
     }
 }

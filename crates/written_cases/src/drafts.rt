@@ -3,7 +3,7 @@ ghost use Rattle.std.specs.Prelude.{◌≤◌, length};
 use crate::answer;
 use crate::case::{Case, Kind, bytes};
 use crate::judge::Judge;
-use crate::kept::compare_kept;
+use crate::kept::{Given, compare_kept};
 use anyhow::anyhow;
 use lexicon::dictionary::Dictionary;
 use written::closed::Written;
@@ -59,11 +59,12 @@ pub(crate) fn run(judge: &mut Judge<'_>, first: &Case, cases: &[Case]) -> anyhow
     let cells = first.given.parse::<usize>()?;
     let mut table = vec![in judge.heap(); 0u16; cells]?;
     let mut draft = Draft::new(table.as_mut_slice());
-    let mut ends = Vec::new(judge.heap());
+    let mut given = Vec::new(judge.heap());
     let (lines, questions) = cases.split_at(closing(cases));
     for case in lines {
         give(judge, &mut draft, case)?;
-        ends.push(draft.words())?;
+        let words = draft.words();
+        given.push(Given { case, words })?;
     }
     for case in questions {
         ask_early(judge, &draft, case)?;
@@ -76,5 +77,5 @@ pub(crate) fn run(judge: &mut Judge<'_>, first: &Case, cases: &[Case]) -> anyhow
     for case in questions {
         ask(judge, &written, case)?;
     }
-    compare_kept(judge, &written, lines, ends.as_slice())
+    compare_kept(judge, &written, given.as_slice())
 }

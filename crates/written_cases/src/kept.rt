@@ -29,10 +29,9 @@ struct Kept<'a, 'd, 't> {
 impl<'a, 'd, 't> Kept<'a, 'd, 't> {
     /// Whether a name can have a number: equal names have equal numbers, and others differ.
     fn goes_with(&mut self, name: &'a str, number: u16) -> Result<bool, AllocError> {
-        for one in self.known.iter() {
-            if one.name == name || one.number == number {
-                return Ok(one.name == name && one.number == number);
-            }
+        let like = |one: &&Numbered<'_>| one.name == name || one.number == number;
+        if let Some(one) = self.known.iter().find(like) {
+            return Ok(one.name == name && one.number == number);
         }
         self.known.push(Numbered { name, number })?;
         Ok(true)
@@ -67,28 +66,34 @@ impl<'a, 'd, 't> Kept<'a, 'd, 't> {
     }
 }
 
-/// Compares what a dictionary has of each line with the answer to it; `ends` has how many words there were after each case.
+/// A case given to a draft, and how many words the draft had after it.
+#[derive(Drop)]
+pub(crate) struct Given<'c, 'a> {
+    pub(crate) case: &'c Case<'a>,
+    pub(crate) words: usize,
+}
+
+/// Compares what a dictionary has of each line with the answer to it.
 pub(crate) fn compare_kept(
     judge: &mut Judge<'_>,
     written: &Written<'_>,
-    cases: &[Case],
-    ends: &[usize],
+    given: &[Given<'_, '_>],
 ) -> anyhow::Result<()> {
     let mut kept = Kept {
         written,
         known: Vec::new(judge.heap()),
     };
     let mut first = 0;
-    for (case, end) in cases.iter().zip(ends.iter()) {
+    for Given { case, words } in given {
         if case.kind == Kind::Line {
             // The words that came with the line are those numbers.
-            for word in first..*end {
+            for word in first..*words {
                 if !kept.word_has(u16::try_from(word)?, case.answer.as_str())? {
                     judge.tell(case, "a word with other disjuncts in the dictionary")?;
                 }
             }
         }
-        first = *end;
+        first = *words;
     }
     Ok(())
 }
