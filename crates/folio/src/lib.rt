@@ -14,6 +14,8 @@ use refusal::Refusal;
 use rows::Rows;
 
 /// A sentence under work over one dictionary.
+// Callers have a position and a disjunct as two numbers, and so they give them; and each call promises for itself that the dictionary is the same, since
+// a public promise stands in the contract of the call.
 #[derive(Drop)]
 pub struct Folio<D> {
     dictionary: D,

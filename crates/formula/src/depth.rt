@@ -12,6 +12,7 @@ pub struct Depth {
 
 impl Depth {
     /// None is open.
+    // A name of its own: "default" would not say so.
     pub(crate) fn top() -> Depth
         ensures { result.count ≡ 0 }
     {

@@ -10,6 +10,7 @@ use crate::way::Ways;
 use refusal::Refusal;
 use refusal::fault::LineFault;
 
+// What is left changes with each call and the depth does not: so they go side by side, as one struct would be taken apart again at each.
 // Three types: what was read has no mark, a row may have one, and what follows has one. One type over the mark would say `()` for none, which is no plainer.
 
 /// What was read, and what is left behind it.

@@ -30,6 +30,7 @@ pub trait Dictionary {
         ensures { result ≡ length ((meaning self.now).disjuncts word) };
 
     /// How many connectors a disjunct of a word has on a side.
+    // A word, a disjunct and a side come one by one, as callers have them.
     fn list_len(&self, word: u16, disjunct: usize, side: Side) -> usize
         ensures { result ≡ length (list_of (meaning self.now) word disjunct side) };
 

@@ -91,6 +91,7 @@ impl Rows {
 
     /// What stands at a position, or why a disjunct is not found there: the position is not there, or its word does not have the disjunct.
     // The rows are to hold no dictionary, so it is lent to the three calls here that need one.
+    // A position and a disjunct come as two numbers, as callers have them.
     fn find<D: Dictionary>(
         &self,
         dictionary: &D,

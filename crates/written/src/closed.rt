@@ -3,12 +3,13 @@ ghost use Rattle.written.specs.Pages.{limit, store, taken};
 ghost use Rattle.written.specs.Store.{Whole};
 
 use crate::front::{MARK, letters, spells};
-use crate::page::limit;
+use crate::page::{limit, row_place};
 
 pub mod ask;
 
 /// A dictionary that is written: it only answers. A draft is read as one, and becomes one when it is closed.
-// A page has the same fields over a table that it borrows to write; no type is generic over how it borrows.
+// A page has the same fields over a table that it borrows to write, and a draft the same facts of its page; no type is generic over how it borrows.
+// What is in the table is told by its place, as in a page.
 #[derive(Drop)]
 pub struct Written<'t> {
     pub(crate) table: &'t [u16],
@@ -76,12 +77,13 @@ impl<'t> Written<'t> {
     }
 
     /// Where the row of a word begins.
+    // That there is such a word, `row`, `bytes` and `block` ask: a number below another's count would borrow what it counts in, which is no plainer.
     pub(crate) fn row(&self, word: usize) -> usize
         requires { word < self.now.words }
         ensures value { result ≡ row_place self.now.table.now word }
         ensures inside { result + 4 ≤ length self.now.table.now }
     {
-        limit(self.table.len()) - 4 * (word + 1)
+        row_place(self.table.len(), word)
     }
 
     /// The bytes of a word, one to a cell.

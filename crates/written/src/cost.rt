@@ -10,7 +10,7 @@ use formula::way::Disjuncts;
 
 /// How many connectors some disjuncts have.
 fn connector_count(disjuncts: &Disjuncts) -> usize
-    requires { Fitting (disjuncts_of disjuncts.now) }
+    requires { length (mentioned (disjuncts_of disjuncts.now)) ≤ 1024 }
     ensures value { result ≡ length (mentioned (disjuncts_of disjuncts.now)) }
     ensures bound { result ≤ 1024 }
 {

@@ -6,6 +6,9 @@ ghost use Rattle.written.specs.Store.{word_cells};
 
 use refusal::Refusal;
 
+// Words stay bytes that are parted by spaces: there is no memory for a list of them, and no function hands an iterator out. So each loop over them cuts
+// them, and they go beside the disjuncts and the new names of their line.
+
 /// A word has at most so many bytes.
 const LONGEST_WORD: usize = 24;
 

@@ -1,4 +1,4 @@
-ghost use Rattle.std.specs.Prelude.{◌≡◌, min};
+ghost use Rattle.std.specs.Prelude.{◌≡◌, ◌+◌, ◌-◌, ◌*◌, ◌≤◌, min};
 
 use crate::front::MARK;
 
@@ -14,8 +14,17 @@ pub(crate) fn limit(len: usize) -> usize
     len.min(LIMIT)
 }
 
+/// Where the row of a word begins in a table of some length; the rows stand at its back, the first word's last.
+pub(crate) fn row_place(len: usize, word: usize) -> usize
+    requires { 4 * (word + 1) ≤ min len 65535 }
+    ensures { result ≡ min len 65535 - 4 * (word + 1) }
+{
+    limit(len) - 4 * (word + 1)
+}
+
 /// The lent table and how much of it is written: cells from the front, and a row of four cells for each word at the back.
-// The table is all the memory there is, and it fills from both ends: so two counts stand beside it and no Vec.
+// The table is all the memory there is, and it fills from both ends: so two counts stand beside it and no Vec,
+// and what is in it is told by its place.
 #[derive(Drop)]
 pub struct Page<'t> {
     pub(crate) table: &'t mut [u16],
@@ -24,7 +33,7 @@ pub struct Page<'t> {
 }
 
 impl<'t> Page<'t> {
-    ghost use Rattle.std.specs.Prelude.{◌+◌, ◌<◌, ◌≤◌, [], ◌∷◌, length};
+    ghost use Rattle.std.specs.Prelude.{[], ◌∷◌, length};
     ghost use Rattle.written.specs.Pages.{Appended, Extended, HasRoom};
     ghost use Rattle.written.specs.Store.{name_cells};
 
@@ -44,7 +53,7 @@ impl<'t> Page<'t> {
         ensures { Extended self.old self.new [] (record { word = word; length_of = len; block = block } ∷ []) }
     {
         let words = self.words;
-        let at = limit(self.table.len()) - 4 * (words + 1);
+        let at = row_place(self.table.len(), words);
         self.table[at] = word;
         self.table[at + 1] = len;
         self.table[at + 2] = block;

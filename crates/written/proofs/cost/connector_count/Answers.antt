@@ -4,16 +4,15 @@ use Rattle.std.proofs.lemmas.Iterator.{YieldsList-from_map, YieldsList-from_slic
 use Rattle.std.proofs.lemmas.Iterator.Consumers.{YieldsList-at, fits_by_from_yields_list}
 use Rattle.formula.specs.declared.way.Disjunct.{Disjunct}
 use Rattle.formula.specs.Shown.{disjuncts_of}
-use Rattle.written.proofs.Costs.{mentioned_few, mentioned_sum}
+use Rattle.written.proofs.Costs.{mentioned_sum}
 use Rattle.written.proofs.cost.connector_count.Goals as goal
 
 pub sum-requires-clause-fits : goal.sum-requires-clause-fits
 sum-requires-clause-fits c =
     let ts = c.args.disjuncts.now.items in
-    let m = mentioned_few (disjuncts_of c.args.disjuncts.now) c.requires.lists in
     fits_by_from_yields_list (λ (d : Disjunct). length d.left.items + length d.right.items) ts c.map.result _
     (YieldsList-from_map _ (λ (d : Disjunct). length d.left.items + length d.right.items) (YieldsList-at c.map.ensures.source (YieldsList-from_slice ts (cc))) c.map.ensures.closure (λ x r q k. search rules))
-    (omega (arith, mentioned_sum ts, c.requires.few))
+    (omega (arith, mentioned_sum ts, c.requires))
 
 pub returns-clause-value : goal.returns-clause-value
 returns-clause-value c =
@@ -23,4 +22,4 @@ returns-clause-value c =
 pub returns-clause-bound : goal.returns-clause-bound
 returns-clause-bound c =
     let n = returns-clause-value c in
-    omega (arith, mentioned_few (disjuncts_of c.args.disjuncts.now) c.requires.lists, c.requires.few)
+    omega (arith, n, c.requires)

@@ -9,7 +9,7 @@ returns c =
     let p = c.args.self.now in
     let T = p.table.now in
     record {
-      store = row_store T p.used p.words (c.limit.result - 4 * (p.words + 1)) c.args.word c.args.len c.args.block (omega arith) c.requires;
+      store = row_store T p.used p.words (c.row_place-at.result) c.args.word c.args.len c.args.block (omega arith) c.requires;
       len = simp length-set;
       used = omega arith;
       words = refl;
