@@ -35,6 +35,7 @@ impl Rows {
     }
 
     /// Whether a disjunct at a position is struck; no past an end.
+    // A position and a disjunct come as two numbers, as callers have them.
     pub fn is_struck(&self, position: usize, disjunct: usize) -> bool
         ensures { result ≡ (row_at (ledger_of self.now) position).struck disjunct }
     {

@@ -106,6 +106,7 @@ impl<'t> Written<'t> {
     }
 
     /// Whether one of some words is known.
+    // Words stay bytes, so they are cut here as they are where they are counted.
     pub(crate) fn knows_any(&self, words: &[u8]) -> bool
         ensures { result ≡ some_among (map (λ (e : Entry). e.word) (model (written self.now)).entries) (pieces 32 words.now) }
     {

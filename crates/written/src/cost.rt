@@ -39,6 +39,7 @@ fn word_cells(words: &[u8]) -> usize
 }
 
 /// How many cells a line takes.
+// Words, disjuncts and new names come from three sources, so they go side by side.
 pub(crate) fn cost(words: &[u8], disjuncts: &Disjuncts, fresh: &Fresh) -> usize
     requires words { (every good_word (pieces 32 words.now) ≡ true) × (length (pieces 32 words.now) ≤ 256) }
     requires fitting { Fitting (disjuncts_of disjuncts.now) }

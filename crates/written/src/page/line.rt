@@ -99,6 +99,7 @@ impl<'t> Page<'t> {
     }
 
     /// Writes words, parted by single spaces, and their rows.
+    // Words stay bytes, so they are cut here as they are where they are counted.
     fn write_words(&mut self, words: &[u8], block: usize)
         requires { HasRoomBehind self.old block (length (word_cells (pieces 32 words.now)) + 4 * length (pieces 32 words.now)) }
         ensures { Extended self.old self.new (word_cells (pieces 32 words.now)) (word_rows self.old.used block (pieces 32 words.now)) }
@@ -109,6 +110,7 @@ impl<'t> Page<'t> {
     }
 
     /// Writes a line: the names that it brings, the block of its disjuncts, and its words.
+    // Words, disjuncts and new names come from three sources, so they go side by side.
     pub(crate) fn write_line(&mut self, words: &[u8], disjuncts: &Disjuncts, fresh: &[&[u8]])
         requires names { lent fresh.now ≡ unmet (known_names (page_store self.old)) (mentioned (disjuncts_of disjuncts.now)) }
         requires room { HasRoom self.old (line_cost (pieces 32 words.now) (disjuncts_of disjuncts.now) (lent fresh.now)) }
