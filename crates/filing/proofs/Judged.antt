@@ -16,7 +16,7 @@ use Rattle.filing.specs.Filings.{JudgedRight, checked, choice_tests, judged, lin
 use Rattle.filing.specs.Given.{linkage, sentence}
 use Rattle.filing.specs.declared.choice.Choices.{Choices}
 use Rattle.filing.specs.declared.linked.Filing.{Filing}
-use Rattle.filing.proofs.Filed.{rising}
+use Rattle.filing.proofs.Filed.{links_rise}
 use Rattle.filing.proofs.Right.{judged_right}
 use Rattle.filing.proofs.Seen.{position_past, position_there}
 
@@ -50,7 +50,7 @@ accepted m c ls f same links chosen kept p e =
     chosen' = subst (λ d. Ok tt ≡ tested (choice_tests (sentence m d) d.bytes.now)) (sym same) chosen
 
     in_order : Ok tt ≡ tested second
-    in_order = sym (ap₂ (λ a b. tested ((a, LinkEnds) ∷ (b, LinkOrder) ∷ [])) (rising m f) f.in_order)
+    in_order = sym (ap₂ (λ a b. tested ((a, LinkEnds) ∷ (b, LinkOrder) ∷ [])) (links_rise m f) f.in_order)
 
 -- A filing over the words of a dictionary is judged right, since each word has few disjuncts.
 pub right : (lex : Lexicon) → FewDisjuncts lex → (g : Ledger) (cs : List ℕ) (es : List Wire) → JudgedRight (ledgers.sentence lex g) cs es

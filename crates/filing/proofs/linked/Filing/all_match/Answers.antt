@@ -6,7 +6,7 @@ use Rattle.linkage.specs.Lists.{every}
 use Rattle.linkage.proofs.Joins.{Wire}
 use Rattle.filing.specs.Given.{linkage, sentence}
 use Rattle.filing.proofs.Chains.{all_links, at_in}
-use Rattle.filing.proofs.Filed.{links_again}
+use Rattle.filing.proofs.Filed.{filing_links}
 use Rattle.filing.proofs.linked.Filing.all_match.Goals as goal
 
 pub all-requires-clause-callable : goal.all-requires-clause-callable
@@ -20,4 +20,4 @@ returns g c =
     let f = c.args.self.now in
     let p : Wire → Bool = matched (sentence m f.choices) (linkage m f) in
     all_links p f.links.now c.iter.result c.iter.ensures.rest _ c.all.result c.all.ensures.ran (λ x b q k. search (rules, tests))
-    ∙ sym (ap (every p) (links_again m f))
+    ∙ sym (ap (every p) (filing_links m f))

@@ -8,7 +8,7 @@ use Rattle.filing.specs.Filings.{pairs}
 use Rattle.filing.specs.Given.{sentence}
 use Rattle.filing.specs.Joinings.{Holds}
 use Rattle.filing.proofs.Chains.{at_in, pairs_all, pairs_more}
-use Rattle.filing.proofs.Filed.{bound, parts_are}
+use Rattle.filing.proofs.Filed.{filing_bound, filing_parts}
 use Rattle.filing.proofs.linked.Filing.parts.Goals as goal
 
 none : Link
@@ -20,7 +20,7 @@ join-requires g c =
     let ls = c.args.self.now.links.now in
     let i = c.loop-link.link-index in
     let l = get_or ls i none in
-    let b = bound g.D.Dictionary.meaning c.args.self.now (ends l) (at_in ls i l c.loop-link-test.true (get_or_default ls i none l c.loop-link-test.true)) in
+    let b = filing_bound g.D.Dictionary.meaning c.args.self.now (ends l) (at_in ls i l c.loop-link-test.true (get_or_default ls i none l c.loop-link-test.true)) in
     let n = c.loop-link.invariant.0 in
     record { left = omega arith; right = omega arith }
 
@@ -43,4 +43,4 @@ returns g c =
     c.loop-link.invariant.1.parts
     ∙ ap (λ n. length (heads (pairs (take i ls)) n)) c.loop-link.invariant.0
     ∙ ap (λ es. length (heads es (size (sentence m f.choices)))) (pairs_all ls i c.loop-link-test.false)
-    ∙ sym (parts_are m f)
+    ∙ sym (filing_parts m f)
