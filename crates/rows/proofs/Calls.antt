@@ -1,6 +1,7 @@
 -- What each call answers and makes of the ledger, by the entries of the rows: where it is refused, and where it is accepted.
-use Rattle.std.proofs.Common.{◌≡◌, ℕ, zero, suc, ◌-◌, ◌<◌, ◌≤◌, Bool, true, false, cond, not, ◌&&◌, ◌||◌, eqb, ltb, List, [], ◌∷◌, ◌++◌, length, map, take, set, Some, Ok, Err, sym, refl, ap, ◌∙◌, ap₂, arith, take_all}
+use Rattle.std.proofs.Common.{◌≡◌, ℕ, zero, suc, ◌-◌, ◌<◌, ◌≤◌, Bool, true, false, cond, not, ◌&&◌, ◌||◌, eqb, ltb, List, [], ◌∷◌, ◌++◌, length, map, take, set, Some, Ok, Err, subst, sym, refl, ap, ◌∙◌, ap₂, arith, take_all}
 use mir.Val.{bool_byte}
+use Rattle.std.proofs.Math.Bridge.{le_prop}
 use Rattle.std.specs.List.{slice_get}
 use Rattle.std.specs.Option.{ok_or}
 use Rattle.std.proofs.lemmas.List.{get_or-map, length-map, map-append, set_past, take-map}
@@ -20,7 +21,7 @@ use Rattle.rows.specs.declared.Rows.{Rows}
 use Rattle.rows.specs.Answers.{Answer, counted, if_known, if_there, standing_of, word_of}
 use Rattle.rows.specs.Edits.{Edited, GoesOn}
 use Rattle.rows.specs.Sets.{members}
-use Rattle.rows.specs.Tables.{ledger_of, marks_of, no_marks, nothing, row}
+use Rattle.rows.specs.Tables.{ledger_of, marks_of, no_marks, row}
 
 -- One call more of a history.
 steps_more : (lex : Lexicon) (g : Ledger) (cs : List Call) (c : Call) →
@@ -28,12 +29,23 @@ steps_more : (lex : Lexicon) (g : Ledger) (cs : List Call) (c : Call) →
 steps_more lex g [] c = refl
 steps_more lex g (b ∷ cs) c = steps_more lex (step lex g b) cs c
 
+-- Rows are their entries and marks: that they are few is a fact, which holds in one way.
+alike : (r s : Rows) → r.entries ≡ s.entries → r.marked ≡ s.marked → r ≡ s
+alike r s k m =
+    subst (λ u. ◌≡◌ {A = Rows} r (record { entries = s.entries; marked = u; few = s.few })) m
+    (subst (λ v. (f : length v.items ≤ most_words) → ◌≡◌ {A = Rows} r (record { entries = v; marked = r.marked; few = f })) k
+    (λ f i. record { entries = r.entries; marked = r.marked; few = le_prop r.few f i }) s.few)
+
 module _ (lex : Lexicon) (r : Rows) (c : Call) where
   goes_on : (h : Ledger) → h ≡ step lex (ledger_of r) c → GoesOn lex (ledger_of r) h c
   goes_on h e cs d = e ∙ ap (λ g. step lex g c) d ∙ sym (steps_more lex [] cs c)
 
   pub refused : {e : Refusal} → ledger_of r ≡ step lex (ledger_of r) c → Edited lex r r c (Err e)
   refused e = record { stepped = e; history = goes_on (ledger_of r) e; cleared = refl }
+
+  -- The same where the entries and marks are known to stand as they did.
+  pub refused_alike : {s : Rows} {e : Refusal} → r.entries ≡ s.entries → r.marked ≡ s.marked → ledger_of r ≡ step lex (ledger_of r) c → Edited lex r s c (Err e)
+  refused_alike {s} {e} k m h = subst (λ t. Edited lex r t c (Err e)) (alike r s k m) (refused h)
 
   pub accepted : {s : Rows} {a : ℕ} → ledger_of s ≡ step lex (ledger_of r) c → marks_of s ≡ no_marks →
       Edited lex r s c (Ok a)
@@ -108,15 +120,12 @@ module _ (r : Rows) where
     pub word_there : Ok e.word ≡ word_of g p
     word_there = ap (λ (x : Row). Ok x.word) (sym row_there) ∙ somewhere (Ok (row_at g p).word)
 
-    mark_there : marks_of r p ≡ members e.marked
-    mark_there = ap members (get_or-map (λ (x : Entry). x.marked) es p e nothing within ∙ ap (λ (x : Entry). x.marked) (get_or_from_slice_get es p e e here))
-
     pub stands : (lex : Lexicon) (f : ℕ → Bool) (m : ℕ) →
-        f ≡ (λ k. members e.struck k || members e.marked k) → m ≡ length (lex.disjuncts e.word) →
+        f ≡ (λ k. members e.struck k || marks_of r p k) → m ≡ length (lex.disjuncts e.word) →
         Ok (length (filter (λ k. not (f k)) (range 0 m))) ≡ standing_of lex g (marks_of r) p
     stands lex f m u d =
         ap₂ (λ h k. Ok (length (filter (λ i. not (h i)) (range 0 k)))) u d
-        ∙ ap₂ (λ x h. Ok (length (unstruck (marked (seen lex x) h)))) (sym row_there) (sym mark_there)
+        ∙ ap (λ x. Ok (length (unstruck (marked (seen lex x) (marks_of r p))))) (sym row_there)
         ∙ somewhere (Ok (length (unstruck (marked (seen lex (row_at g p)) (marks_of r p)))))
 
     module _ (lex : Lexicon) (d : ℕ) (k : d < length (lex.disjuncts e.word)) where

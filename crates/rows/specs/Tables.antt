@@ -17,13 +17,13 @@ ledger_of r = map row r.entries.items
 abbrev pub sentence_of : Lexicon → Rows → Sentence
 sentence_of lex r = sentence lex (ledger_of r)
 
--- Past the end nothing is marked.
+-- Past the end of the marks nothing is marked.
 abbrev pub nothing : DisjunctSet
 nothing = record { bits = 0 }
 
 -- Whether a disjunct at a position is marked.
 abbrev pub marks_of : Rows → (position disjunct : ℕ) → Bool
-marks_of r p = members (slice_index_or (map (λ (e : Entry). e.marked) r.entries.items) p nothing)
+marks_of r p = members (slice_index_or r.marked.items p nothing)
 
 abbrev pub no_marks : (position disjunct : ℕ) → Bool
 no_marks p d = false

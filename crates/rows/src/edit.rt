@@ -13,13 +13,13 @@ use lexicon::dictionary::Dictionary;
 use refusal::Refusal;
 
 impl Entry {
-    /// A word with nothing struck and nothing marked.
+    /// A word with nothing struck.
     fn fresh(word: u16) -> Entry
         ensures { row result ≡ fresh word }
     {
         Entry {
             word,
-            ..Entry::default()
+            struck: DisjunctSet::default(),
         }
     }
 }
@@ -32,6 +32,7 @@ impl Rows {
     {
         Rows {
             entries: ArrayVec::new(),
+            marked: ArrayVec::new(),
         }
     }
 
@@ -40,9 +41,7 @@ impl Rows {
         ensures ledger { ledger_of self.new ≡ ledger_of self.old }
         ensures marks { marks_of self.new ≡ no_marks }
     {
-        for entry in self.entries.iter_mut() {
-            entry.marked = DisjunctSet::default();
-        }
+        self.marked.clear();
     }
 
     /// Puts another entry at a position, and takes every mark off.

@@ -6,6 +6,9 @@
 
 #![tactic(auto)]
 
+ghost use Rattle.std.specs.Prelude.{◌≤◌, length};
+ghost use Rattle.linkage.specs.Ledgers.{most_words};
+
 use arrayvec::ArrayVec;
 use sets::DisjunctSet;
 
@@ -16,16 +19,18 @@ mod sets;
 /// The most words that a folio holds.
 pub const MOST_WORDS: usize = 40;
 
-/// A position of a sentence under work: its word, and which of the word's disjuncts are struck and which are marked.
+/// A position of a sentence under work: its word, and which of the word's disjuncts are struck.
 #[derive(Clone, Copy, Default, PartialEq, Eq, Debug)]
 struct Entry {
     word: u16,
     struck: DisjunctSet,
-    marked: DisjunctSet,
 }
 
-/// The words of a sentence under work, each with the disjuncts that are struck and that are marked.
+/// The words of a sentence under work, each with the disjuncts that are struck; and those that are marked, position by position as far as marks go.
+// Marks stand apart, since each edit takes all of them off.
 #[derive(Drop)]
 pub struct Rows {
     entries: ArrayVec<Entry, MOST_WORDS>,
+    marked: ArrayVec<DisjunctSet, MOST_WORDS>,
+    ghost few: { length entries.items ≤ most_words },
 }

@@ -2,8 +2,10 @@ ghost use Rattle.std.specs.Prelude.{◌≡◌, ◌≤◌, length, slice_get, ok_
 ghost use Rattle.refusal.specs.declared.Refusal.TheVariants.{NoPosition};
 ghost use Rattle.linkage.specs.Ledgers.{most_words, row_at};
 ghost use Rattle.rows.specs.Answers.{standing_of, word_of};
+ghost use Rattle.rows.specs.Sets.{members};
 ghost use Rattle.rows.specs.Tables.{ledger_of, marks_of};
 
+use crate::sets::DisjunctSet;
 use crate::{Entry, Rows};
 use lexicon::dictionary::Dictionary;
 use refusal::Refusal;
@@ -31,7 +33,10 @@ impl Rows {
     pub fn word(&self, position: usize) -> Result<u16, Refusal>
         ensures { result ≡ word_of (ledger_of self.now) position }
     {
-        Ok(self.entry(position)?.word)
+        self.entries
+            .get(position)
+            .map(|entry| entry.word)
+            .ok_or(Refusal::NoPosition)
     }
 
     /// Whether a disjunct at a position is struck; no past an end.
@@ -44,13 +49,20 @@ impl Rows {
             .is_some_and(|entry| entry.struck.contains(disjunct))
     }
 
+    /// Which disjuncts at a position are marked.
+    fn marked_at(&self, position: usize) -> DisjunctSet
+        ensures { members result ≡ marks_of self.now position }
+    {
+        self.marked.get(position).copied().unwrap_or_default()
+    }
+
     /// How many disjuncts of the word at a position are neither struck nor marked.
     // Lent, as the rows are to hold no dictionary.
     pub fn standing<D: Dictionary>(&self, dictionary: &D, position: usize) -> Result<usize, Refusal>
         ensures { result ≡ standing_of (D.meaning dictionary.now) (ledger_of self.now) (marks_of self.now) position }
     {
         let entry = self.entry(position)?;
-        let out = entry.struck.union(entry.marked);
+        let out = entry.struck.union(self.marked_at(position));
         Ok(out.count_outside(dictionary.disjuncts(entry.word)))
     }
 }

@@ -5,4 +5,4 @@ use Rattle.rows.specs.Sets.{members}
 use Rattle.rows.proofs.Entry.fresh.Goals as goal
 
 pub returns : goal.returns
-returns c = ap (with c.args.word) (ap (λ n. members (of_bits n)) c.default.ensures.1.0 ∙ empty)
+returns c = ap (with c.args.word) (ap (λ n. members (of_bits n)) c.default.ensures ∙ empty)

@@ -1,9 +1,8 @@
-use Rattle.std.proofs.Common.{◌≡◌, IsSome, inl, inr, length, map, Err, IfNone, subst, sym, ap, ◌∙◌, arith}
+use Rattle.std.proofs.Common.{◌≡◌, IsSome, inl, inr, length, map, IfNone, subst, sym, refl, ap, ◌∙◌, arith}
 use Rattle.std.proofs.lemmas.Bool.{cases_lt, false≢true}
 use Rattle.std.proofs.lemmas.Result.{err_from_is_err_and}
 use Rattle.linkage.specs.declared.call.Call.TheVariants.{Drop}
-use Rattle.rows.proofs.Calls.{accepted, drops, refused, still_wordless}
-use Rattle.rows.specs.Edits.{Edited}
+use Rattle.rows.proofs.Calls.{accepted, drops, refused_alike, still_wordless}
 use Rattle.rows.specs.Tables.{row}
 use Rattle.rows.proofs.Rows.drop.Goals as goal
 
@@ -17,7 +16,7 @@ returns-in_err-last-clause-edit c =
       | inr h ↦ omega arith
     ] in
     let e = err_from_is_err_and c.from_residual.result c.from_residual.ensures.1 in
-    rw e.1 (λ lex. subst (λ v. Edited lex r (record { entries = v }) Drop (Err e.0)) (sym same) (refused lex r Drop (still_wordless r lex wordless)))
+    rw e.1 (λ lex. refused_alike lex r Drop (sym same) refl (still_wordless r lex wordless))
 
 pub returns-clause-edit : goal.returns-clause-edit
 returns-clause-edit c =
