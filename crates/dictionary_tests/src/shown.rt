@@ -4,12 +4,12 @@ use refusal::fault::LineFault;
 use std::alloc::{AllocError, Global};
 
 // `written_cases` prints lists with a mark of its own for none; a library between two programs for a few lines is no plainer.
-fn list(out: &mut String, names: &Names<'_>) -> Result<(), AllocError> {
+fn list(out: &mut String, names: &Names) -> Result<(), AllocError> {
     for (i, name) in names.iter().enumerate() {
         if i > 0 {
             out.push(' ')?;
         }
-        for b in *name {
+        for b in name.iter() {
             out.push(char::from(*b))?;
         }
     }
@@ -23,7 +23,7 @@ pub(crate) fn formula(heap: Global, formula: &[u8]) -> Result<String, AllocError
         Err(fault) => return refusal(heap, fault),
     };
     let mut out = String::new(heap);
-    for disjunct in &kept {
+    for disjunct in kept.iter() {
         list(&mut out, &disjunct.left)?;
         out.push('|')?;
         list(&mut out, &disjunct.right)?;

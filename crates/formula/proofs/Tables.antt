@@ -3,16 +3,15 @@ use Rattle.std.proofs.Common.{◌≡◌, ◌+◌, ◌*◌, ◌<◌, ◌≤◌, c
 use mathlib.Core.List.{map-append}
 use lib.ListN.{length-map}
 use Rattle.std.proofs.lemmas.Bool.{cases_lt, lt-ltb, le-ltb}
-use Rattle.arrayvec.specs.ArrayVec.{ArrayVec}
-use Rattle.formula.specs.declared.way.Way.{Way as Made}
 use Rattle.formula.specs.declared.token.Join.{Join}
 use Rattle.formula.specs.declared.token.Join.TheVariants.{And, Or}
-use Rattle.formula.specs.Shown.{Clipped, Shows, clip, clip_glue, half_glue, short, table, shown}
+use Rattle.formula.specs.Bounds.{held}
+use Rattle.formula.specs.Shown.{Clipped, Listing, Shows, clip, clip_glue, half_glue, short, table, shown}
 use Rattle.formula.specs.Tokens.{Name}
 use Rattle.formula.specs.Ways.{Way, glue, product, joined}
 
-pub length_shown : (l : ArrayVec Made) (ds : List Way) → table l ≡ map clip ds → length ds ≡ length l.items
-length_shown l ds e = sym (length-map ds clip) ∙ ap length (sym e) ∙ length-map l.items shown
+pub length_shown : (l : Listing) (ds : List Way) → table l ≡ map clip ds → length ds ≡ length (held l)
+length_shown l ds e = sym (length-map ds clip) ∙ ap length (sym e) ∙ length-map (held l) shown
 
 pub map_both : {X Y Z : Type 0} (f : Y → Z) (g : X → Y) (xs : List X) → map (λ x. f (g x)) xs ≡ map f (map g xs)
 map_both f g [] = refl
@@ -79,7 +78,7 @@ length_product (d ∷ ds) es =
     in omega arith
 
 -- Some ways are joined to no fewer.
-pub some_way : (w : Option (ArrayVec Made)) (ds : List Way) → Shows w ds → 0 < length ds
+pub some_way : (w : Option Listing) (ds : List Way) → Shows w ds → 0 < length ds
 some_way (Some l) ds h = h.0
 some_way None ds h = omega arith
 

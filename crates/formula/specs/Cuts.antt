@@ -23,6 +23,10 @@ small b = (nat_le 97 b && nat_le b 122) || b == 42
 abbrev pub name_length : List ℕ → ℕ
 name_length bs = prefix_len capital bs + prefix_len small (drop (prefix_len capital bs) bs)
 
+-- The name that stands at a place of a formula.
+abbrev pub name_there : List ℕ → ℕ → Name
+name_there formula p = take (name_length (drop p formula)) (drop p formula)
+
 -- The connector of a name that is followed by a byte.
 abbrev pub signed : Name → ℕ → Result Word Refusal
 signed n b = cond (b == 43) (Ok (connector Right n)) (cond (b == 45) (Ok (connector Left n)) (Err BadName))

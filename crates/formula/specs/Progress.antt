@@ -3,7 +3,6 @@
 use Rattle.std.specs.Prelude.{◌≡◌, ℕ, ◌<◌, Bool, true, false, List, length, Some, None, Ok, Err, Option, Result, ◌≢◌}
 use Rattle.refusal.specs.declared.Refusal.TheVariants.{OutOfPlace}
 use Rattle.refusal.specs.declared.fault.LineFault.{LineFault}
-use Rattle.arrayvec.specs.ArrayVec.{ArrayVec}
 use Rattle.formula.specs.declared.read.Next.{Next}
 use Rattle.formula.specs.declared.read.Reading.{Reading}
 use Rattle.formula.specs.declared.read.Row.{Row}
@@ -12,12 +11,11 @@ use Rattle.formula.specs.declared.token.Join.{Join}
 use Rattle.formula.specs.declared.token.Join.TheVariants.{And, Or}
 use Rattle.formula.specs.declared.token.Bracket.{Bracket}
 use Rattle.formula.specs.declared.token.Bracket.TheVariants.{Round, Brace}
-use Rattle.formula.specs.declared.way.Way.{Way}
 use Rattle.formula.specs.Cuts.{Cut, ends, fails, token, cut_rest}
 use Rattle.refusal.specs.Faults.{fault}
 use Rattle.formula.specs.Formulas.{Formula, one, row, Item, longer}
 use Rattle.formula.specs.Reading.{Before, nothing, Open, inside, wants, has, add, close_empty, go_on, open_depth, read, reading}
-use Rattle.formula.specs.Shown.{Shows}
+use Rattle.formula.specs.Shown.{Listing, Shows}
 use Rattle.formula.specs.Tokens.{mark, open_with, close_with, connector}
 use Rattle.formula.specs.Ways.{ways, item_ways}
 
@@ -128,6 +126,6 @@ MoreRead r own d (Err e) =
     (f : Formula) → own ≡ joined_by f → (o : Open) → open_depth o ≡ d → read (has f o) (cut_rest r) ≡ Err e
 
 -- The whole: the formula that is read, by its ways, or its fault.
-abbrev pub Parsed : List ℕ → Result (Option (ArrayVec Way)) LineFault → Type 0
+abbrev pub Parsed : List ℕ → Result (Option Listing) LineFault → Type 0
 Parsed xs (Ok w) = (f : Formula) × (reading xs ≡ Ok f) × Shows w (ways f)
 Parsed xs (Err e) = reading xs ≡ Err e

@@ -1,22 +1,28 @@
 -- Which ways the program's own tables show. A list of more than 8 connectors is known only to be too long, and more than 64
 -- ways are known only to be too many; both are refused in the end, but only once the whole formula is read.
 use Rattle.std.specs.Prelude.{◌≡◌, ℕ, ◌<◌, cond, List, ◌++◌, map, length, Some, None, Option, nat_lt}
-use Rattle.std.specs.Borrow.{Bor}
 use Rattle.std.specs.Option.{option_map}
-use Rattle.arrayvec.specs.ArrayVec.{ArrayVec}
 use Rattle.lexicon.specs.Lexicon.{Disjunct}
+use Rattle.formula.specs.declared.bounded.Bounded.{Bounded}
 use Rattle.formula.specs.declared.way.Way.{Way}
 use Rattle.formula.specs.declared.way.Disjunct.{Disjunct as Kept}
+use Rattle.formula.specs.Bounds.{held}
 use Rattle.formula.specs.Tokens.{Name}
 
--- The names are lent from the formula.
-abbrev pub Lent : Type 0
-Lent = ArrayVec (Bor (List ℕ))
+-- A name is held by its bytes.
+abbrev pub Spelled : Type 0
+Spelled = Bounded ℕ 8
 
-abbrev pub names_of : Lent → List Name
-names_of l = map (λ n. n.now) l.items
+abbrev pub spellings : List Spelled → List Name
+spellings ns = map held ns
 
-abbrev pub half : Option Lent → Option (List Name)
+abbrev pub Names : Type 0
+Names = Bounded Spelled 8
+
+abbrev pub names_of : Names → List Name
+names_of l = spellings (held l)
+
+abbrev pub half : Option Names → Option (List Name)
 half h = option_map names_of h
 
 -- A way as far as it can be shown.
@@ -42,11 +48,14 @@ half_glue None m = None
 abbrev pub clip_glue : Clipped → Clipped → Clipped
 clip_glue c d = record { left = half_glue c.left d.left; right = half_glue c.right d.right }
 
-abbrev pub table : ArrayVec Way → List Clipped
-table l = map shown l.items
+abbrev pub Listing : Type 0
+Listing = Bounded Way 64
+
+abbrev pub table : Listing → List Clipped
+table l = map shown (held l)
 
 -- Every formula has at least one way.
-abbrev pub Shows : Option (ArrayVec Way) → List (Disjunct Name) → Type 0
+abbrev pub Shows : Option Listing → List (Disjunct Name) → Type 0
 Shows (Some l) ds = (0 < length ds) × (table l ≡ map clip ds)
 Shows None ds = 64 < length ds
 
@@ -54,5 +63,5 @@ Shows None ds = 64 < length ds
 abbrev pub disjunct_of : Kept → Disjunct Name
 disjunct_of d = record { left = names_of d.left; right = names_of d.right }
 
-abbrev pub disjuncts_of : ArrayVec Kept → List (Disjunct Name)
-disjuncts_of t = map disjunct_of t.items
+abbrev pub disjuncts_of : Bounded Kept 64 → List (Disjunct Name)
+disjuncts_of t = map disjunct_of (held t)

@@ -3,14 +3,13 @@ ghost use Rattle.std.specs.List.{prefix_len};
 ghost use Rattle.formula.specs.Cuts.{capital, name_length, cut_rest, next_cut, token_at, said_there};
 ghost use Rattle.formula.specs.Tokens.{said, spelled};
 
+use crate::name::name_at;
 use crate::rest::{Placed, Rest};
 use crate::token::{Bracket, Join, Token};
+use crate::way::LONGEST_NAME;
 use lexicon::side::Side;
 use refusal::Refusal;
 use refusal::fault::LineFault;
-
-/// A connector's name has at most so many bytes.
-const LONGEST_NAME: usize = 8;
 
 /// How many bytes at the front pass a test.
 fn run<P: Fn(u8) -> bool>(bytes: &[u8], passes: P) -> usize
@@ -25,7 +24,7 @@ fn run<P: Fn(u8) -> bool>(bytes: &[u8], passes: P) -> usize
 }
 
 /// How many bytes a name at the front takes: its capitals, then small letters and stars.
-fn name_length(bytes: &[u8]) -> usize
+pub(crate) fn name_length(bytes: &[u8]) -> usize
     ensures value { result ≡ name_length bytes.now }
     ensures within { result ≤ length bytes.now }
 {
@@ -38,12 +37,13 @@ fn connector<'a>(bytes: &'a [u8]) -> Result<Token<'a>, Refusal>
     requires { (0 < length bytes.now) × (capital (slice_index bytes.now 0) ≡ true) }
     ensures says { token_at (slice_index bytes.now 0) (drop 1 bytes.now) ≡ said_there result }
     ensures within { IfOk result (λ t. length (spelled (said t)) ≤ length bytes.now) }
+    ensures short { IfOk result (λ t. length (spelled (said t)) ≤ 9) }
 {
-    let (name, behind) = bytes.split_at(name_length(bytes));
+    let name = name_at(bytes, 0);
     if name.len() > LONGEST_NAME {
         return Err(Refusal::BadName);
     }
-    let side = match behind.first() {
+    let side = match bytes.get(name.len()) {
         Some(b'+') => Side::Right,
         Some(b'-') => Side::Left,
         _ => return Err(Refusal::BadName),
@@ -56,6 +56,7 @@ fn token<'a>(bytes: &'a [u8]) -> Result<Token<'a>, Refusal>
     requires { 0 < length bytes.now }
     ensures says { token_at (slice_index bytes.now 0) (drop 1 bytes.now) ≡ said_there result }
     ensures within { IfOk result (λ t. length (spelled (said t)) ≤ length bytes.now) }
+    ensures short { IfOk result (λ t. length (spelled (said t)) ≤ 9) }
 {
     match bytes {
         [b'A'..=b'Z', ..] => connector(bytes),
@@ -84,6 +85,7 @@ impl<'a> Rest<'a> {
     pub(crate) fn next(self) -> Result<Option<Placed<'a>>, LineFault>
         ensures cuts { cut_rest self.entry ≡ next_cut self.entry result }
         ensures on { IfOk result (λ o. IfSome o (λ p. length p.rest.bytes.now < length self.entry.bytes.now)) }
+        ensures short { IfOk result (λ o. IfSome o (λ p. length (spelled (said p.token)) ≤ 9)) }
     {
         let front = self.behind_spaces();
         if front.bytes.is_empty() {

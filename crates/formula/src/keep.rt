@@ -2,6 +2,7 @@ ghost use Rattle.std.specs.Prelude.{◌≡◌, ◌+◌, ◌<◌, ◌≤◌, List
 ghost use Rattle.std.specs.Option.{option_map as if_any};
 ghost use Rattle.std.specs.Result.{result_map_both};
 ghost use Rattle.lexicon.specs.Lexicon.{Disjunct as Asking};
+ghost use Rattle.formula.specs.Bounds.{held};
 ghost use Rattle.formula.specs.Shown.{Shows, clip, disjunct_of, disjuncts_of, shown};
 ghost use Rattle.formula.specs.Tokens.{Name};
 ghost use Rattle.formula.specs.Ways.{fitted, keep as with_one, long};
@@ -10,8 +11,8 @@ use crate::way::{Disjunct, Disjuncts, Way, Ways};
 use refusal::Refusal;
 
 /// A way as a disjunct, if none of its lists is too long.
-fn whole<'a>(way: Way<'a>) -> Option<Disjunct<'a>>
-    ensures { (d : Asking Name) → shown way.entry ≡ clip d → if_any disjunct_of result ≡ (if long d then None else Some d) }
+fn whole(way: &Way) -> Option<Disjunct>
+    ensures { (d : Asking Name) → shown way.now ≡ clip d → if_any disjunct_of result ≡ (if long d then None else Some d) }
 {
     Some(Disjunct {
         left: way.left?,
@@ -20,25 +21,25 @@ fn whole<'a>(way: Way<'a>) -> Option<Disjunct<'a>>
 }
 
 /// One disjunct more, unless an equal one is kept already.
-fn keep<'a>(out: &mut Disjuncts<'a>, one: Disjunct<'a>)
-    requires { length out.old.items < 64 }
-    ensures keeps { disjuncts_of out.new ≡ with_one (disjuncts_of out.old) (disjunct_of one.entry) }
-    ensures longer { length out.new.items ≤ length out.old.items + 1 }
+fn keep(out: &mut Disjuncts, one: &Disjunct)
+    requires { length (held out.old) < 64 }
+    ensures keeps { disjuncts_of out.new ≡ with_one (disjuncts_of out.old) (disjunct_of one.now) }
+    ensures longer { length (held out.new) ≤ length (held out.old) + 1 }
 {
-    if !out.contains(&one) {
-        out.push(one);
+    if !out.contains(one) {
+        out.push(*one);
     }
 }
 
 /// The disjuncts of a formula, from its ways: of equal ones the first is kept.
-pub(crate) fn disjuncts<'a>(ways: Ways<'a>) -> Result<Disjuncts<'a>, Refusal>
-    ensures { (ds : List (Asking Name)) → Shows ways.entry ds → result_map_both disjuncts_of (λ e. e) result ≡ fitted ds }
+pub(crate) fn disjuncts(ways: &Ways) -> Result<Disjuncts, Refusal>
+    ensures { (ds : List (Asking Name)) → Shows ways.now ds → result_map_both disjuncts_of (λ e. e) result ≡ fitted ds }
 {
-    let listing = ways.ok_or(Refusal::ManyWays)?;
+    let listing = ways.as_ref().ok_or(Refusal::ManyWays)?;
     let mut out = Disjuncts::new();
-    for way in listing {
+    for way in listing.iter() {
         let one = whole(way).ok_or(Refusal::LongList)?;
-        keep(&mut out, one);
+        keep(&mut out, &one);
     }
     Ok(out)
 }

@@ -16,12 +16,12 @@ use refusal::fault::LineFault;
 /// The bytes are cut into tokens that lose none of them, and the tokens are read as the one tree whose tokens they are.
 /// Of its ways equal ones are kept once, at their first place.
 #[tactic(auto, using(crate::proofs::Lays::laid))]
-pub fn meaning<'a>(formula: &'a [u8]) -> Result<Disjuncts<'a>, LineFault>
+pub fn meaning(formula: &[u8]) -> Result<Disjuncts, LineFault>
     ensures means { result_map_both disjuncts_of (λ e. e) result ≡ meant formula.now }
     ensures grammar { RightAnswer formula.now }
     ensures bytes { Laid formula.now 0 (cut formula.now) }
     ensures kept { (ds : List Way) → KeptOnce ds }
 {
     let ways = parse(formula)?;
-    Ok(disjuncts(ways)?)
+    Ok(disjuncts(&ways)?)
 }

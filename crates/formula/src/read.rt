@@ -14,25 +14,25 @@ use refusal::fault::LineFault;
 // Three types: what was read has no mark, a row may have one, and what follows has one. One type over the mark would say `()` for none, which is no plainer.
 
 /// What was read, and what is left behind it.
-#[derive(Drop)]
+#[derive(Clone, Copy)]
 pub struct Reading<'a> {
-    pub ways: Ways<'a>,
+    pub ways: Ways,
     pub rest: Rest<'a>,
 }
 
 /// A formula that may go on: the mark that joins its items, once it has two.
-#[derive(Drop)]
+#[derive(Clone, Copy)]
 pub struct Row<'a> {
-    pub ways: Ways<'a>,
+    pub ways: Ways,
     pub join: Option<Join>,
     pub rest: Rest<'a>,
 }
 
 /// A mark and the item behind it, and what is left behind both.
-#[derive(Drop)]
+#[derive(Clone, Copy)]
 pub struct Next<'a> {
     pub mark: Join,
-    pub ways: Ways<'a>,
+    pub ways: Ways,
     pub rest: Rest<'a>,
 }
 
@@ -128,7 +128,7 @@ fn inside_at<'a>(rest: Rest<'a>, depth: Depth, bracket: Bracket) -> Result<Readi
     let inside = formula_at(rest, depth)?;
     let behind = closing(inside.rest, bracket)?;
     Ok(Reading {
-        ways: bracketed(bracket, inside.ways),
+        ways: bracketed(bracket, &inside.ways),
         rest: behind,
     })
 }
@@ -161,12 +161,12 @@ fn more_of<'a>(
 }
 
 /// A row with one item more.
-fn longer<'a>(row: Row<'a>, next: Next<'a>) -> Row<'a>
-    ensures joins { (f : Formula) (i : Item) → StandsFor row.entry f → Joined next.entry f i → StandsFor result (with_item f next.entry.mark i) }
-    ensures rest { result.rest ≡ next.entry.rest }
+fn longer<'a>(row: &Row<'a>, next: &Next<'a>) -> Row<'a>
+    ensures joins { (f : Formula) (i : Item) → StandsFor row.now f → Joined next.now f i → StandsFor result (with_item f next.now.mark i) }
+    ensures rest { result.rest ≡ next.now.rest }
 {
     Row {
-        ways: join(next.mark, row.ways, next.ways),
+        ways: join(next.mark, &row.ways, &next.ways),
         join: Some(next.mark),
         rest: next.rest,
     }
@@ -185,7 +185,7 @@ fn formula_at<'a>(rest: Rest<'a>, depth: Depth) -> Result<Reading<'a>, LineFault
         rest: first.rest,
     };
     while let Some(next) = more_of(row.rest, row.join, depth)? {
-        row = longer(row, next);
+        row = longer(&row, &next);
     }
     Ok(Reading {
         ways: row.ways,
@@ -194,7 +194,7 @@ fn formula_at<'a>(rest: Rest<'a>, depth: Depth) -> Result<Reading<'a>, LineFault
 }
 
 /// The ways of a whole formula.
-pub fn parse<'a>(formula: &'a [u8]) -> Result<Ways<'a>, LineFault>
+pub fn parse(formula: &[u8]) -> Result<Ways, LineFault>
     ensures { Parsed formula.now result }
 {
     let whole = formula_at(Rest::from(formula), Depth::top())?;

@@ -1,17 +1,17 @@
 -- A page to which cells are added, and loops that add them.
 use Rattle.std.proofs.Common.{◌≡◌, ℕ, ◌+◌, ◌*◌, ◌<◌, ◌≤◌, Bool, true, false, cond, List, [], ◌∷◌, ◌++◌, map, length, get_or, take, drop, Some, unwrap_or, sym, refl, ap, ◌∙◌, ap₂, subst, append_assoc, append-nil, arith, length-append, length-take-le}
-use denote.Ref.{Bor}
 use lib.ListN.{length-map}
 use Rattle.std.proofs.lemmas.List.{get_or-map, take-take, take-append-le, drop_more, drop_all}
 use Rattle.lexicon.specs.Lexicon.{Disjunct}
 use Rattle.formula.specs.declared.way.Disjunct.{Disjunct as Tabled}
-use Rattle.formula.specs.Shown.{disjunct_of}
+use Rattle.formula.specs.Bounds.{held}
+use Rattle.formula.specs.Shown.{Spelled, disjunct_of, spellings}
 use Rattle.formula.specs.Tokens.{Name}
 use Rattle.written.specs.declared.page.Page.{Page}
 use Rattle.written.specs.Matching.{same}
 use Rattle.written.specs.Model.{Named, lookup, number_of, mentioned, renamed}
 use Rattle.written.specs.Pages.{Appended, Extended, extended, limit, page_store, taken}
-use Rattle.written.specs.Store.{Row, Store, all_name_cells, connectors, heads, lent, name_cells, names_from, numbered, block_cells, third}
+use Rattle.written.specs.Store.{Row, Store, all_name_cells, connectors, heads, name_cells, names_from, numbered, block_cells, third}
 use Rattle.written.proofs.Blocks.{length_heads}
 use Rattle.written.proofs.Lined.{with_cells}
 
@@ -114,23 +114,23 @@ module _ {X Y : Type 0} (f : X → Y) (xs : List X) (i : ℕ) where
   none_made h = let m = length-map xs f in drop_all i (map f xs) (omega arith)
 
 -- The cells of the names from a place on.
-module _ (ns : List (Bor (List ℕ))) (i : ℕ) where
-  pub names_next : (d : Bor (List ℕ)) → i < length ns →
-      all_name_cells (drop i (lent ns)) ≡ name_cells (get_or ns i d).now ++ all_name_cells (drop (i + 1) (lent ns))
+module _ (ns : List Spelled) (i : ℕ) where
+  pub names_next : (d : Spelled) → i < length ns →
+      all_name_cells (drop i (spellings ns)) ≡ name_cells (held (get_or ns i d)) ++ all_name_cells (drop (i + 1) (spellings ns))
   unfolding all_name_cells
-  names_next d h = ap all_name_cells (next_made (λ m. m.now) ns i d h)
+  names_next d h = ap all_name_cells (next_made held ns i d h)
 
-  pub names_last : length ns ≤ i → all_name_cells (drop i (lent ns)) ≡ []
+  pub names_last : length ns ≤ i → all_name_cells (drop i (spellings ns)) ≡ []
   unfolding all_name_cells
-  names_last h = ap all_name_cells (none_made (λ m. m.now) ns i h)
+  names_last h = ap all_name_cells (none_made held ns i h)
 
 -- The numbers of the names of a list from a place on.
-module _ (g : Name → ℕ) (ns : List (Bor (List ℕ))) (i : ℕ) where
-  pub list_next : (d : Bor (List ℕ)) → i < length ns → map g (drop i (lent ns)) ≡ g (get_or ns i d).now ∷ map g (drop (i + 1) (lent ns))
-  list_next d h = ap (map g) (next_made (λ m. m.now) ns i d h)
+module _ (g : Name → ℕ) (ns : List Spelled) (i : ℕ) where
+  pub list_next : (d : Spelled) → i < length ns → map g (drop i (spellings ns)) ≡ g (held (get_or ns i d)) ∷ map g (drop (i + 1) (spellings ns))
+  list_next d h = ap (map g) (next_made held ns i d h)
 
-pub length_list : (g : Name → ℕ) (ns : List (Bor (List ℕ))) → length (map g (lent ns)) ≡ length ns
-length_list g ns = length-map (lent ns) g ∙ length-map ns (λ n. n.now)
+pub length_list : (g : Name → ℕ) (ns : List Spelled) → length (map g (spellings ns)) ≡ length ns
+length_list g ns = length-map (spellings ns) g ∙ length-map ns held
 
 pub length_connectors : (f : Name → ℕ) (ds : List (Disjunct Name)) → length (connectors (map (renamed f) ds)) ≡ length (mentioned ds)
 unfolding connectors mentioned
@@ -154,30 +154,30 @@ module _ (F : List ℕ) (ts : List Tabled) (k : ℕ) where
     next_one = ap (numbered F) (next_made disjunct_of ts k one h) ∙ ap (λ (d : Tabled). renamed number (disjunct_of d) ∷ rest) (sym is)
 
     pub heads_next : (at : ℕ) → heads at (numbered F (drop k (map disjunct_of ts)))
-        ≡ length one.left.items ∷ length one.right.items ∷ at ∷ heads (at + (length one.left.items + length one.right.items)) rest
+        ≡ length (held one.left) ∷ length (held one.right) ∷ at ∷ heads (at + (length (held one.left) + length (held one.right))) rest
     unfolding heads
     heads_next at =
         ap (heads at) next_one
-        ∙ ap₂ (λ (l r : ℕ). l ∷ r ∷ at ∷ heads (at + (l + r)) rest) (length_list number one.left.items) (length_list number one.right.items)
+        ∙ ap₂ (λ (l r : ℕ). l ∷ r ∷ at ∷ heads (at + (l + r)) rest) (length_list number (held one.left)) (length_list number (held one.right))
 
     pub connectors_next : connectors (numbered F (drop k (map disjunct_of ts)))
-        ≡ (map number (lent one.left.items) ++ map number (lent one.right.items)) ++ connectors rest
+        ≡ (map number (spellings (held one.left)) ++ map number (spellings (held one.right))) ++ connectors rest
     unfolding connectors
     connectors_next =
         ap connectors next_one
-        ∙ sym (append_assoc (map number (lent one.left.items)) (map number (lent one.right.items)) (connectors rest))
+        ∙ sym (append_assoc (map number (spellings (held one.left))) (map number (spellings (held one.right))) (connectors rest))
 
     pub mentioned_next : length (mentioned (drop k (map disjunct_of ts)))
-        ≡ length one.left.items + length one.right.items + length (mentioned (drop (k + 1) (map disjunct_of ts)))
+        ≡ length (held one.left) + length (held one.right) + length (mentioned (drop (k + 1) (map disjunct_of ts)))
     unfolding mentioned
     mentioned_next =
         let ds = drop (k + 1) (map disjunct_of ts) in
-        let l = length-map one.left.items (λ n. n.now) in
-        let r = length-map one.right.items (λ n. n.now) in
-        let m = length-append (lent one.left.items) (lent one.right.items ++ mentioned ds) in
-        let n = length-append (lent one.right.items) (mentioned ds) in
+        let l = length-map (held one.left) held in
+        let r = length-map (held one.right) held in
+        let m = length-append (spellings (held one.left)) (spellings (held one.right) ++ mentioned ds) in
+        let n = length-append (spellings (held one.right)) (mentioned ds) in
         ap (λ es. length (mentioned es)) (next_made disjunct_of ts k one h)
-        ∙ ap (λ (d : Tabled). length (lent d.left.items ++ (lent d.right.items ++ mentioned ds))) (sym is)
+        ∙ ap (λ (d : Tabled). length (spellings (held d.left) ++ (spellings (held d.right) ++ mentioned ds))) (sym is)
         ∙ omega arith
 
   pub heads_last : (at : ℕ) → length ts ≤ k → heads at (numbered F (drop k (map disjunct_of ts))) ≡ []
@@ -198,13 +198,13 @@ length_heads_of F ts at = length_heads at (numbered F (map disjunct_of ts)) ∙ 
 pub connectors_room : (p q : Page) (F : List ℕ) (ts : List Tabled) (k : ℕ) (one : Tabled) → k < length ts → one ≡ get_or ts k one →
     Adding p q (connectors (numbered F (drop k (map disjunct_of ts)))) (connectors (numbered F (map disjunct_of ts))) →
     taken p.used p.words + length (mentioned (map disjunct_of ts)) ≤ limit p.table.now →
-    taken q.used q.words + (length one.left.items + length one.right.items) ≤ limit q.table.now
+    taken q.used q.words + (length (held one.left) + length (held one.right)) ≤ limit q.table.now
 connectors_room p q F ts k one h is a room =
     let g = number_of (names_from 0 F) in
-    let l = map g (lent one.left.items) in
-    let r = map g (lent one.right.items) in
-    let m = length_list g one.left.items in
-    let n = length_list g one.right.items in
+    let l = map g (spellings (held one.left)) in
+    let r = map g (spellings (held one.right)) in
+    let m = length_list g (held one.left) in
+    let n = length_list g (held one.right) in
     let s = length-append l r in
     let c = length_connectors g (map disjunct_of ts) in
     let left = adding_room p q (connectors (numbered F (map disjunct_of ts))) (connectors (numbered F (drop k (map disjunct_of ts))))
@@ -218,11 +218,11 @@ heads_alike F [] at = refl
 heads_alike F (d ∷ ts) at =
     let f = number_of (names_from 0 []) in
     let g = number_of (names_from 0 F) in
-    let l = length_list f d.left.items ∙ sym (length_list g d.left.items) in
-    let r = length_list f d.right.items ∙ sym (length_list g d.right.items) in
+    let l = length_list f (held d.left) ∙ sym (length_list g (held d.left)) in
+    let r = length_list f (held d.right) ∙ sym (length_list g (held d.right)) in
     ap₂ (λ (m n : ℕ). m ∷ n ∷ at ∷ heads (at + (m + n)) (numbered [] (map disjunct_of ts))) l r
-    ∙ ap (λ hs. length (map g (lent d.left.items)) ∷ length (map g (lent d.right.items)) ∷ at ∷ hs)
-    (heads_alike F ts (at + (length (map g (lent d.left.items)) + length (map g (lent d.right.items)))))
+    ∙ ap (λ hs. length (map g (spellings (held d.left))) ∷ length (map g (spellings (held d.right))) ∷ at ∷ hs)
+    (heads_alike F ts (at + (length (map g (spellings (held d.left))) + length (map g (spellings (held d.right))))))
 
 -- The cells of a block, as they are written.
 pub block_written : (F : List ℕ) (ts : List Tabled) (b : ℕ) →

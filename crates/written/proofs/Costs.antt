@@ -1,11 +1,11 @@
 -- What words, names and connectors take, one by one and in all.
 use Rattle.std.proofs.Common.{◌≡◌, ℕ, suc, ◌+◌, ◌*◌, ◌≤◌, true, ◌&&◌, eqb, ltb, leb, List, [], ◌∷◌, ◌++◌, length, get_or, map, refl, sym, ap, ◌∙◌, mul-suc, arith, length-append, leb-true}
-use denote.Ref.{Bor}
 use lib.ListN.{length-map}
 use Rattle.std.specs.List.{list_any, sum_by}
 use Rattle.std.proofs.lemmas.List.Recursion.{is_sum_by}
 use Rattle.formula.specs.declared.way.Disjunct.{Disjunct as Kept}
-use Rattle.formula.specs.Shown.{disjunct_of}
+use Rattle.formula.specs.Bounds.{held}
+use Rattle.formula.specs.Shown.{Spelled, disjunct_of, spellings}
 use Rattle.std.proofs.lemmas.Bool.{and_parts}
 use Rattle.lexicon.specs.Lexicon.{Disjunct, free, side_of}
 use Rattle.lexicon.specs.declared.side.Side.{Side}
@@ -14,7 +14,7 @@ use Rattle.formula.specs.Tokens.{Name}
 use Rattle.written.specs.Costs.{each_takes}
 use Rattle.written.specs.Lines.{every, good_word}
 use Rattle.written.specs.Model.{mentioned}
-use Rattle.written.specs.Store.{lent, word_cells}
+use Rattle.written.specs.Store.{word_cells}
 use Rattle.written.proofs.Noted.{mentioned_push}
 
 pub takes_split : (n : ℕ) (ws : List (List ℕ)) → each_takes n ws ≡ n * length ws + length (word_cells ws)
@@ -46,19 +46,19 @@ mentioned_count ds d =
     ap length (mentioned_push ds d) ∙ length-append (mentioned ds) (d.left ++ d.right)
     ∙ ap (λ n. length (mentioned ds) + n) (length-append d.left d.right)
 
-pub mentioned_sum : (ts : List Kept) → sum_by (λ (d : Kept). length d.left.items + length d.right.items) ts ≡ length (mentioned (map disjunct_of ts))
+pub mentioned_sum : (ts : List Kept) → sum_by (λ (d : Kept). length (held d.left) + length (held d.right)) ts ≡ length (mentioned (map disjunct_of ts))
 unfolding mentioned
-mentioned_sum ts = sym (is_sum_by (λ ds. length (mentioned (map disjunct_of ds))) (λ (d : Kept). length d.left.items + length d.right.items) refl step ts)
+mentioned_sum ts = sym (is_sum_by (λ ds. length (mentioned (map disjunct_of ds))) (λ (d : Kept). length (held d.left) + length (held d.right)) refl step ts)
   where
-    step : (d : Kept) (ds : List Kept) → length (mentioned (map disjunct_of (d ∷ ds))) ≡ length d.left.items + length d.right.items + length (mentioned (map disjunct_of ds))
+    step : (d : Kept) (ds : List Kept) → length (mentioned (map disjunct_of (d ∷ ds))) ≡ length (held d.left) + length (held d.right) + length (mentioned (map disjunct_of ds))
     step d ds =
-        let l = length-map d.left.items (λ n. n.now) in
-        let r = length-map d.right.items (λ n. n.now) in
+        let l = length-map (held d.left) held in
+        let r = length-map (held d.right) held in
         simp length-append (omega arith)
 
-pub takes_sum : (n : ℕ) (ns : List (Bor (List ℕ))) → sum_by (λ (m : Bor (List ℕ)). n + length m.now) ns ≡ each_takes n (lent ns)
+pub takes_sum : (n : ℕ) (ns : List Spelled) → sum_by (λ (m : Spelled). n + length (held m)) ns ≡ each_takes n (spellings ns)
 unfolding each_takes
-takes_sum n ns = sym (is_sum_by (λ ms. each_takes n (lent ms)) (λ (m : Bor (List ℕ)). n + length m.now) refl (λ _ _. refl) ns)
+takes_sum n ns = sym (is_sum_by (λ ms. each_takes n (spellings ms)) (λ (m : Spelled). n + length (held m)) refl (λ _ _. refl) ns)
 
 -- Short lists mention few names, and short names take few cells.
 pub mentioned_few : (ds : List (Disjunct Name)) → ((k : ℕ) (s : Side) → length (side_of (get_or ds k free) s) ≤ 8) → length (mentioned ds) ≤ 16 * length ds

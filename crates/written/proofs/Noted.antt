@@ -1,14 +1,14 @@
 -- Names that are noted one by one, or list by list, are those that were not met, each once.
 use Rattle.std.proofs.Common.{◌≡◌, ℕ, ◌+◌, ◌<◌, Bool, true, false, cond, ◌||◌, eqb, ap₂, List, [], ◌∷◌, ◌++◌, map, length, get_or, take, sym, refl, ap, ◌∙◌, append_assoc, append-nil}
-use denote.Ref.{Bor}
 use lib.Pointwise.{pointwise}
 use Rattle.std.specs.List.{list_any}
 use mathlib.Core.List.{map-append}
 use Rattle.std.proofs.lemmas.List.{take_more}
 use Rattle.lexicon.specs.Lexicon.{Disjunct}
 use Rattle.formula.specs.Tokens.{Name}
+use Rattle.formula.specs.Bounds.{held}
+use Rattle.formula.specs.Shown.{Spelled, spellings}
 use Rattle.written.specs.Model.{among, fresh, mentioned}
-use Rattle.written.specs.Store.{lent}
 use Rattle.written.proofs.Letters.{bytes_same}
 use Rattle.written.proofs.Words.{same_swap}
 
@@ -60,13 +60,9 @@ pub held_more : {X Y : Type 0} (f : X → Y) (xs : List X) (i : ℕ) (d : X) →
     map f (take (i + 1) xs) ≡ map f (take i xs) ++ (f (get_or xs i d) ∷ [])
 held_more f xs i d h = ap (map f) (take_more xs i d h) ∙ map-append f (take i xs) (get_or xs i d ∷ [])
 
--- Names that are lent are searched by their bytes.
-pub lent_among : (n : Name) (fs : List (Bor (List ℕ))) → list_any (λ y. pointwise eqb y.now n) fs ≡ among n (lent fs)
+-- Names are searched by how they are spelled.
+pub spelled_among : (n : Name) (fs : List Spelled) → list_any (λ y. pointwise eqb (held y) n) fs ≡ among n (spellings fs)
 unfolding among
-lent_among n [] = refl
-lent_among n (f ∷ fs) =
-    ap₂ ◌||◌ (bytes_same f.now n ∙ same_swap f.now n) (lent_among n fs)
-
--- A lent name where there is none.
-abbrev pub no_name : Bor (List ℕ)
-no_name = record { ref_ptr = (0, 0); now = [] }
+spelled_among n [] = refl
+spelled_among n (f ∷ fs) =
+    ap₂ ◌||◌ (bytes_same (held f) n ∙ same_swap (held f) n) (spelled_among n fs)

@@ -3,8 +3,9 @@
 -- number of disjuncts and three cells to spare, then for each disjunct the lengths of its two lists and the place of its
 -- connectors, and then the connectors' numbers. A word's row tells where its bytes and its block of disjuncts are.
 use Rattle.std.specs.Prelude.{◌≡◌, ℕ, zero, suc, ◌+◌, ◌*◌, ◌^◌, ◌<◌, ◌≤◌, cond, List, [], ◌∷◌, ◌++◌, map, length, take, drop, ◌==◌, slice_index, slice_index_or}
-use Rattle.std.specs.Borrow.{Bor}
+use Rattle.arrayvec.specs.ArrayVec.{ArrayVec}
 use Rattle.lexicon.specs.Lexicon.{Disjunct}
+use Rattle.formula.specs.Shown.{Spelled, spellings}
 use Rattle.formula.specs.Tokens.{Name}
 use Rattle.written.specs.Model.{Entry, Named, Model, renamed, number_of, mentioned, fresh}
 
@@ -136,9 +137,9 @@ numbered front ds = map (renamed (number_of (names_from 0 front))) ds
 abbrev pub with_block : List ℕ → List (Disjunct Name) → List ℕ
 with_block front ds = front ++ block_cells (length front) (numbered front ds)
 
--- Names as they are lent from a formula, and those that a front has.
-abbrev pub lent : List (Bor (List ℕ)) → List Name
-lent ns = map (λ n. n.now) ns
+-- The names that a line brings, and those that a front has.
+abbrev pub fresh_of : ArrayVec Spelled → List Name
+fresh_of v = spellings v.items
 
 abbrev pub known : List ℕ → List Name
 known front = map (λ (m : Named). m.name) (names_from 0 front)

@@ -18,7 +18,7 @@ fn refused(heap: Global, fault: LineFault) -> Result<String, AllocError> {
 
 /// Adds the names of a list, or `-` where there are none.
 // `dictionary_tests` prints lists in its own form; a library between two programs for a few lines is no plainer.
-fn add_names(out: &mut String, names: &Names<'_>) -> Result<(), AllocError> {
+fn add_names(out: &mut String, names: &Names) -> Result<(), AllocError> {
     if names.is_empty() {
         out.push('-')?;
     }
@@ -26,7 +26,7 @@ fn add_names(out: &mut String, names: &Names<'_>) -> Result<(), AllocError> {
         if i > 0 {
             out.push(',')?;
         }
-        for b in *name {
+        for b in name.iter() {
             out.push(char::from(*b))?;
         }
     }
@@ -34,8 +34,8 @@ fn add_names(out: &mut String, names: &Names<'_>) -> Result<(), AllocError> {
 }
 
 /// Adds a row for each disjunct.
-fn add_rows(out: &mut String, disjuncts: &Disjuncts<'_>) -> Result<(), AllocError> {
-    for disjunct in disjuncts {
+fn add_rows(out: &mut String, disjuncts: &Disjuncts) -> Result<(), AllocError> {
+    for disjunct in disjuncts.iter() {
         out.push_str("\ndis ")?;
         add_names(out, &disjunct.left)?;
         out.push(' ')?;

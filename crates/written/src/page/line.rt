@@ -1,20 +1,20 @@
 ghost use Rattle.std.specs.Prelude.{◌≡◌, ℕ, ◌+◌, ◌*◌, ◌≤◌, [], ◌∷◌, ◌++◌, map, length, take, slice_index_or};
-ghost use Rattle.formula.specs.Shown.{disjunct_of, disjuncts_of};
+ghost use Rattle.formula.specs.Shown.{disjunct_of, disjuncts_of, spellings};
 ghost use Rattle.written.specs.Costs.{line_cost};
 ghost use Rattle.written.specs.Lines.{pieces};
 ghost use Rattle.written.specs.Model.{fresh as unmet, mentioned, number_of};
 ghost use Rattle.written.specs.Pages.{Appended, Extended, HasRoom, HasRoomBehind, limit, page_store, taken};
-ghost use Rattle.written.specs.Store.{all_name_cells, block_cells, connectors, heads, lent, names_from, names_of as known_names, numbered, with_line, word_cells, word_rows};
+ghost use Rattle.written.specs.Store.{all_name_cells, block_cells, connectors, heads, names_from, names_of as known_names, numbered, with_line, word_cells, word_rows};
 
 use crate::front::number;
 use crate::page::Page;
-use formula::way::{Disjunct, Disjuncts};
+use formula::way::{Disjunct, Disjuncts, Name};
 
 impl<'t> Page<'t> {
     /// Writes the names that were noted.
-    fn write_names(&mut self, fresh: &[&[u8]])
-        requires { HasRoom self.old (length (all_name_cells (lent fresh.now))) }
-        ensures { Appended self.old self.new (all_name_cells (lent fresh.now)) }
+    fn write_names(&mut self, fresh: &[Name])
+        requires { HasRoom self.old (length (all_name_cells (spellings fresh.now))) }
+        ensures { Appended self.old self.new (all_name_cells (spellings fresh.now)) }
     {
         for name in fresh {
             self.push_name(name);
@@ -55,9 +55,9 @@ impl<'t> Page<'t> {
     }
 
     /// Writes the number of each name of a list, looked up in the first cells.
-    fn write_list(&mut self, names: &[&[u8]], block: usize)
+    fn write_list(&mut self, names: &[Name], block: usize)
         requires { HasRoomBehind self.old block (length names.now) }
-        ensures { Appended self.old self.new (map (number_of (names_from 0 (take block self.old.table.now))) (lent names.now)) }
+        ensures { Appended self.old self.new (map (number_of (names_from 0 (take block self.old.table.now))) (spellings names.now)) }
     {
         for name in names {
             let found = self.number_among(block, name);
@@ -111,12 +111,12 @@ impl<'t> Page<'t> {
 
     /// Writes a line: the names that it brings, the block of its disjuncts, and its words.
     // Words, disjuncts and new names come from three sources, so they go side by side.
-    pub(crate) fn write_line(&mut self, words: &[u8], disjuncts: &Disjuncts, fresh: &[&[u8]])
-        requires names { lent fresh.now ≡ unmet (known_names (page_store self.old)) (mentioned (disjuncts_of disjuncts.now)) }
-        requires room { HasRoom self.old (line_cost (pieces 32 words.now) (disjuncts_of disjuncts.now) (lent fresh.now)) }
+    pub(crate) fn write_line(&mut self, words: &[u8], disjuncts: &Disjuncts, fresh: &[Name])
+        requires names { spellings fresh.now ≡ unmet (known_names (page_store self.old)) (mentioned (disjuncts_of disjuncts.now)) }
+        requires room { HasRoom self.old (line_cost (pieces 32 words.now) (disjuncts_of disjuncts.now) (spellings fresh.now)) }
         ensures store { page_store self.new ≡ with_line (page_store self.old) (pieces 32 words.now) (disjuncts_of disjuncts.now) }
         ensures len { length self.new.table.now ≡ length self.old.table.now }
-        ensures taken { taken self.new.used self.new.words ≡ taken self.old.used self.old.words + line_cost (pieces 32 words.now) (disjuncts_of disjuncts.now) (lent fresh.now) }
+        ensures taken { taken self.new.used self.new.words ≡ taken self.old.used self.old.words + line_cost (pieces 32 words.now) (disjuncts_of disjuncts.now) (spellings fresh.now) }
         ensures words { self.new.words ≡ self.old.words + length (pieces 32 words.now) }
     {
         self.write_names(fresh);

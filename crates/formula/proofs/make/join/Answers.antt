@@ -6,7 +6,7 @@ use Rattle.formula.proofs.make.join.Goals as goal
 
 pub returns-in_err-x : goal.returns-in_err-x
 returns-in_err-x c ds es f g =
-    let none : c.args.a ≡ None = search rules in
+    let none : c.args.a.now ≡ None = search rules in
     let many : 64 < length ds = subst (λ w. Shows w ds) none f in
     let n = no_fewer c.args.mark ds es (some_way _ ds f) (some_way _ es g) in
     let out : c.from_residual.result ≡ None = search rules in
@@ -15,7 +15,7 @@ returns-in_err-x c ds es f g =
 
 pub returns-in_err-y : goal.returns-in_err-y
 returns-in_err-y c ds es f g =
-    let none : c.args.b ≡ None = search rules in
+    let none : c.args.b.now ≡ None = search rules in
     let many : 64 < length es = subst (λ w. Shows w es) none g in
     let n = no_fewer c.args.mark ds es (some_way _ ds f) (some_way _ es g) in
     let out : c.from_residual-in_err-y.result ≡ None = search rules in

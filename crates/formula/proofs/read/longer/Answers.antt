@@ -7,5 +7,5 @@ use Rattle.formula.proofs.read.longer.Goals as goal
 pub returns-clause-joins : goal.returns-clause-joins
 returns-clause-joins c f i stands joins = (
   refl,
-  subst (Shows c.join.result) (sym (ways_more f c.args.next.mark i joins.0)) (c.join.ensures (ways f) (item_ways i) stands.1 joins.1),
+  subst (Shows c.join.result) (sym (ways_more f c.args.next.now.mark i joins.0)) (c.join.ensures (ways f) (item_ways i) stands.1 joins.1),
 )

@@ -1,7 +1,7 @@
 use Rattle.std.proofs.Common.{◌≡◌, ℕ, ◌+◌, ◌<◌, ◌≤◌, Bool, true, false, ◌||◌, List, [], ◌++◌, length, get_or, Ok, Err, sym, refl, ap, ◌∙◌, subst, arith}
 use Rattle.lexicon.specs.Lexicon.{Disjunct, free, side_of}
 use Rattle.lexicon.specs.declared.side.Side.{Side}
-use Rattle.formula.specs.Shown.{disjuncts_of, names_of}
+use Rattle.formula.specs.Shown.{disjuncts_of, spellings}
 use Rattle.formula.specs.Tokens.{Name}
 use Rattle.written.specs.declared.draft.Draft.{Draft}
 use Rattle.written.specs.declared.page.Page.{Page}
@@ -10,7 +10,7 @@ use Rattle.written.specs.Drafts.{Book, book, cells_of, drafted, page_book, with_
 use Rattle.written.specs.Lines.{pieces, any_known, some_among}
 use Rattle.written.specs.Model.{Fitting, Named, fresh, mentioned}
 use Rattle.written.specs.Pages.{limit, page_store, taken}
-use Rattle.written.specs.Store.{Store, Whole, known, lent, names_of as store_names, with_line, model, MARK}
+use Rattle.written.specs.Store.{MARK, Store, Whole, fresh_of, known, model, names_of as store_names, with_line}
 use Rattle.written.proofs.Entered.{is_taken, is_dear, is_many, is_entered, all_at, words_of}
 use Rattle.written.proofs.Found.{length_entries}
 use Rattle.written.proofs.Known.{fresh_all}
@@ -93,7 +93,7 @@ returns-then-cost-room-clause-answer c =
     let r = c.read-read.ensures in
     let s = Rattle.written.specs.Meaning.written c.read-read.result in
     let new = known_by b ws false false (knows s (drafted d) r.holds ws false c.if-knows_any.ensures) c.if-repeats.ensures in
-    let ns = brought c.front.result.now s (drafted d) (mentioned ds) (names_of c.fresh_names-fresh.result) c.front.ensures.value r.holds c.fresh_names-fresh.ensures in
+    let ns = brought c.front.result.now s (drafted d) (mentioned ds) (fresh_of c.fresh_names-fresh.result) c.front.ensures.value r.holds c.fresh_names-fresh.ensures in
     let e : c.cost.result ≡ line_cost ws ds (fresh b.names (mentioned ds)) = c.cost.ensures ∙ ap (line_cost ws ds) ns in
     let l = ap limit r.table in
     is_dear (cells_of d) b ws ds new (omega (arith, e, c.room.ensures, c.if-cost-room.true, r.used, r.words, d.roomy))
@@ -105,8 +105,8 @@ write_line-requires-clause-names c =
     let d = c.args.self.now in
     let ds = disjuncts_of c.args.disjuncts.now in
     let s = Rattle.written.specs.Meaning.written c.read-read.result in
-    let ns = brought c.front.result.now s (drafted d) (mentioned ds) (names_of c.fresh_names-fresh.result) c.front.ensures.value c.read-read.ensures.holds c.fresh_names-fresh.ensures in
-    ap lent c.deref.ensures.0 ∙ ns
+    let ns = brought c.front.result.now s (drafted d) (mentioned ds) (fresh_of c.fresh_names-fresh.result) c.front.ensures.value c.read-read.ensures.holds c.fresh_names-fresh.ensures in
+    ap spellings c.deref.ensures.0 ∙ ns
 
 -- A draft whose page has a line more.
 module _ (d : Draft) (q : Page) (ws : List (List ℕ)) (ds : List (Disjunct Name)) (fit : Fitting ds)
@@ -146,7 +146,7 @@ invariant_of-self c =
     let r = c.read-read.ensures in
     let l = ap limit r.table in
     let w = c.write_line.ensures in
-    let f = ap (line_cost ws ds) (ap lent c.deref.ensures.0) in
+    let f = ap (line_cost ws ds) (ap spellings c.deref.ensures.0) in
     let roomy : taken q.used q.words ≤ limit q.table.now = omega (arith, c.cost.ensures, c.room.ensures, c.if-cost-room.false, r.used, r.words, d.roomy) in
     let bytes = pieces_bytes 32 c.args.words.now (λ i. omega (arith, c.type_inv.words i)) in
     let some = pieces_some 32 c.args.words.now in
@@ -165,7 +165,7 @@ returns-clause-left c =
     let r = c.read-read.ensures in
     let l = ap limit r.table in
     let w = c.write_line.ensures in
-    let f = ap (line_cost ws ds) (ap lent c.deref.ensures.0) in
+    let f = ap (line_cost ws ds) (ap spellings c.deref.ensures.0) in
     let roomy : taken q.used q.words ≤ limit q.table.now = omega (arith, c.cost.ensures, c.room.ensures, c.if-cost-room.false, r.used, r.words, d.roomy) in
     let bytes = pieces_bytes 32 c.args.words.now (λ i. omega (arith, c.type_inv.words i)) in
     let some = pieces_some 32 c.args.words.now in
@@ -181,14 +181,14 @@ returns-clause-answer c =
     let r = c.read-read.ensures in
     let l = ap limit r.table in
     let w = c.write_line.ensures in
-    let f = ap (line_cost ws ds) (ap lent c.deref.ensures.0) in
+    let f = ap (line_cost ws ds) (ap spellings c.deref.ensures.0) in
     let roomy : taken q.used q.words ≤ limit q.table.now = omega (arith, c.cost.ensures, c.room.ensures, c.if-cost-room.false, r.used, r.words, d.roomy) in
     let bytes = pieces_bytes 32 c.args.words.now (λ i. omega (arith, c.type_inv.words i)) in
     let some = pieces_some 32 c.args.words.now in
     let b = book d in
     let s = Rattle.written.specs.Meaning.written c.read-read.result in
     let new = known_by b ws false false (knows s (drafted d) r.holds ws false c.if-knows_any.ensures) c.if-repeats.ensures in
-    let ns = brought c.front.result.now s (drafted d) (mentioned ds) (names_of c.fresh_names-fresh.result) c.front.ensures.value r.holds c.fresh_names-fresh.ensures in
+    let ns = brought c.front.result.now s (drafted d) (mentioned ds) (fresh_of c.fresh_names-fresh.result) c.front.ensures.value r.holds c.fresh_names-fresh.ensures in
     let e : c.cost.result ≡ line_cost ws ds (fresh b.names (mentioned ds)) = c.cost.ensures ∙ ap (line_cost ws ds) ns in
     let spent : taken q.used q.words ≡ (with_words b ws ds).spent = w.taken ∙ ap (λ n. taken d.page.used d.page.words + n) (f ∙ ap (line_cost ws ds) ns) in
     let n = length_entries d.page.table.now d.page.used d.page.words in

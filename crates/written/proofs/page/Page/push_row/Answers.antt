@@ -1,4 +1,4 @@
-use Rattle.std.proofs.Common.{◌+◌, ◌-◌, ◌*◌, refl, arith, length-set}
+use Rattle.std.proofs.Common.{refl, arith, length-set}
 use Rattle.written.specs.Pages.{page_store}
 use Rattle.written.proofs.Grown.{row_store}
 use Rattle.written.proofs.page.Page.push_row.Goals as goal

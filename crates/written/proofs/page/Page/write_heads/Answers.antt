@@ -1,4 +1,5 @@
 use Rattle.std.proofs.Common.{◌≡◌, ℕ, ◌+◌, ◌≤◌, List, [], ◌∷◌, map, length, drop, ap₂, arith}
+use Rattle.formula.specs.Bounds.{held}
 use Rattle.formula.specs.Shown.{disjunct_of}
 use Rattle.written.specs.Pages.{limit, taken}
 use Rattle.written.specs.Store.{heads, numbered}
@@ -11,8 +12,8 @@ push_head-requires c =
     let k = c.loop-one.one-index in
     let at = c.loop-one.at in
     let one = c.one-item.result in
-    let l = length one.left.items in
-    let r = length one.right.items in
+    let l = length (held one.left) in
+    let r = length (held one.right) in
     let all = heads c.args.from (numbered [] (map disjunct_of ts)) in
     let n = length_heads_of [] ts c.args.from in
     let room : taken c.args.self.now.used c.args.self.now.words + length all ≤ limit c.args.self.now.table.now = omega (arith, c.requires.room) in
@@ -27,8 +28,8 @@ loop-one-preserved c =
     let k = c.loop-one.one-index in
     let at = c.loop-one.at in
     let one = c.one-item.result in
-    let l = length one.left.items in
-    let r = length one.right.items in
+    let l = length (held one.left) in
+    let r = length (held one.right) in
     let all = heads c.args.from (numbered [] (map disjunct_of ts)) in
     let here : ◌≡◌ {A = List ℕ} (c.len-left.result ∷ c.len-right.result ∷ at ∷ []) (l ∷ r ∷ at ∷ []) =
     ap₂ (λ (x y : ℕ). x ∷ y ∷ at ∷ []) c.len-left.ensures.value c.len-right.ensures.value in
