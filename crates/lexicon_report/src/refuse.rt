@@ -6,6 +6,7 @@ use refusal::Refusal;
 use refusal::fault::Fault;
 use std::io;
 use std::io::Write;
+use written::pieces::piece_end;
 
 /// Whether a refusal is of what stands at a byte of a formula.
 fn is_of_a_mark(refusal: Refusal) -> bool
@@ -24,11 +25,7 @@ fn mark_end(formula: &[u8], place: usize) -> usize
     ensures within { (place ≤ result) × (result ≤ length formula.now) }
 {
     match formula[place] {
-        b'A'..=b'Z' => {
-            let behind = &formula[place..];
-            let space = behind.iter().position(|b| *b == b' ');
-            place + space.unwrap_or(behind.len())
-        }
+        b'A'..=b'Z' => piece_end(formula, place, b' '),
         b'o' if place + 1 < formula.len() => place + 2,
         _ => place + 1,
     }

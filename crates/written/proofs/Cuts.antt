@@ -1,16 +1,12 @@
 -- The pieces of some bytes, one by one: the first piece from a place on ends at the next mark or with the bytes, and behind it are those that
 -- begin past the mark (`pieces_step`); the same of the lines of a text (`lines_step`). Assumes nothing.
-use Rattle.std.proofs.Common.{◌≡◌, ℕ, suc, ◌+◌, ◌-◌, ◌<◌, ◌≤◌, cond, eqb, leb, List, [], ◌∷◌, ◌++◌, length, get_or, take, drop, sym, refl, ap, ◌∙◌, ⊎_elim, append-nil, arith, length-drop, take-append-drop, drop-drop}
+use Rattle.std.proofs.Common.{◌≡◌, ℕ, suc, ◌+◌, ◌-◌, ◌<◌, ◌≤◌, cond, eqb, leb, List, [], ◌∷◌, ◌++◌, length, get_or, drop, sym, refl, ap, ◌∙◌, ⊎_elim, arith, take-append-drop, drop-drop}
 use Rattle.std.specs.List.{between}
 use Rattle.std.proofs.lemmas.List.Edits.{get_or-between, length-between}
-use Rattle.std.proofs.lemmas.List.{drop_more, drop_all, take_more}
+use Rattle.std.proofs.lemmas.List.{drop_more, drop_all}
 use Rattle.std.proofs.lemmas.Slice.{between_to_end}
 use Rattle.std.proofs.lemmas.Bool.{eq-eqb, ne_eqb, le-leb, lt-leb, cond-true, cond-false, cases_lt}
-use Rattle.written.specs.Lines.{onto, pieces, lines}
-
--- The pieces that begin at a place or behind it. A piece may begin where the bytes end; past that there is none.
-unfoldable pub pieces_from : (mark : ℕ) → List ℕ → ℕ → List (List ℕ)
-pieces_from m bs a = cond (leb a (length bs)) (pieces m (drop a bs)) []
+use Rattle.written.specs.Lines.{onto, pieces, pieces_from, lines}
 
 -- Bytes among which no mark stands, and such bytes from one place to another.
 abbrev Clear : ℕ → List ℕ → Type 0

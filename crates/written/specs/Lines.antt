@@ -12,6 +12,10 @@ unfoldable pub pieces : (mark : ℕ) → List ℕ → List (List ℕ)
 pieces m [] = [] ∷ []
 pieces m (b ∷ bs) = cond (b == m) ([] ∷ pieces m bs) (onto b (pieces m bs))
 
+-- The pieces that begin at a place or behind it. A piece may begin where the bytes end; past that there is none.
+unfoldable pub pieces_from : (mark : ℕ) → List ℕ → ℕ → List (List ℕ)
+pieces_from m bs a = cond (nat_le a (length bs)) (pieces m (drop a bs)) []
+
 -- A text cut at its line feeds; an empty rest at its end is no line.
 unfoldable pub lines : List ℕ → List (List ℕ)
 lines [] = []

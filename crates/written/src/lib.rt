@@ -1,5 +1,6 @@
 //! Written dictionaries: lines are taken into a draft over lent memory, and closing makes it a dictionary.
 //!
+//! - `pieces`: where a piece of a text ends.
 //! - `line`: a line's words and its formula.
 //! - `page`: the lent table, and writing to it.
 //! - `front`: the names that the front of a table has.
@@ -18,3 +19,4 @@ pub mod line;
 pub mod matching;
 mod note;
 pub mod page;
+pub mod pieces;

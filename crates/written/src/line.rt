@@ -1,7 +1,7 @@
-ghost use Rattle.std.specs.Prelude.{◌≡◌, ◌<◌, true, false, [], length, count_by, MatchResult};
+ghost use Rattle.std.specs.Prelude.{◌≡◌, ◌<◌, true, false, [], length, take, MatchResult};
 ghost use Rattle.refusal.specs.declared.Refusal.TheVariants.{LineForm};
 ghost use Rattle.written.specs.Lines.{lines, pieces, words_part, formula_part, good_word, good_line, every, any_known};
-ghost use Rattle.written.specs.Matching.{same};
+ghost use Rattle.written.specs.Model.{among};
 ghost use Rattle.written.specs.Store.{word_cells};
 
 use refusal::Refusal;
@@ -57,14 +57,14 @@ pub fn unended(text: &[u8]) -> &[u8]
     text.strip_suffix(b"\n").unwrap_or(text)
 }
 
-/// How often a word stands among some words.
-fn times(words: &[u8], word: &[u8]) -> usize
-    ensures { result ≡ count_by (same word.now) (pieces 32 words.now) }
+/// Whether a word is among the first of some words.
+fn stands_before(words: &[u8], count: usize, word: &[u8]) -> bool
+    ensures { result ≡ among word.now (take count (pieces 32 words.now)) }
 {
     words
         .split(|b| *b == b' ')
-        .filter(|other| *other == word)
-        .count()
+        .take(count)
+        .any(|other| other == word)
 }
 
 /// Whether one of some words stands twice.
@@ -73,7 +73,8 @@ pub(crate) fn repeats(words: &[u8]) -> bool
 {
     words
         .split(|b| *b == b' ')
-        .any(|word| times(words, word) > 1)
+        .enumerate()
+        .any(|(at, word)| stands_before(words, at, word))
 }
 
 /// How many words there are.
