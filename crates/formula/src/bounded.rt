@@ -7,8 +7,8 @@ use std::ops::DerefSlice;
 /// At most `N` items, in order, which lie in the value itself: so it is copied where they are. No longer than 255.
 // A vector of the kit is never copied, and holds its length in a word.
 pub struct Bounded<T, const N: usize> {
-    cells: [T; N],
-    len: u8,
+    pub cells: [T; N],
+    pub len: u8,
     ghost few: { len ≤ N },
     ghost sized: { length cells ≡ N },
 }
