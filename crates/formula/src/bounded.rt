@@ -1,4 +1,4 @@
-ghost use Rattle.std.specs.Prelude.{◌≡◌, ◌+◌, ◌<◌, ◌≤◌, ◌==◌, [], ◌∷◌, ◌++◌, length};
+ghost use Rattle.std.specs.Prelude.{⊤, ◌≡◌, ◌+◌, ◌<◌, ◌≤◌, ◌==◌, [], ◌∷◌, ◌++◌, length};
 
 use std::alloc::AllocError;
 use std::fmt;
@@ -16,6 +16,10 @@ pub struct Bounded<T, const N: usize> {
 impl<T: Copy, const N: usize> Copy for Bounded<T, N> {}
 
 impl<T: Copy, const N: usize> Clone for Bounded<T, N> {
+    ghost is_clone = { λ a b. b ≡ a };
+
+    ghost is_infallible = { λ _. ⊤ };
+
     fn clone(&self) -> Result<Self, AllocError> {
         Ok(*self)
     }
@@ -36,6 +40,10 @@ impl<T: Copy + Default, const N: usize> Bounded<T, N> {
 }
 
 impl<T: Copy + Default, const N: usize> Default for Bounded<T, N> {
+    ghost use Rattle.formula.specs.Bounds.{held};
+
+    ghost is_default = { λ b. held b ≡ [] };
+
     fn default() -> Self {
         Self::new()
     }
