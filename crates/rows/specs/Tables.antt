@@ -17,7 +17,7 @@ ledger_of r = map row r.entries.items
 abbrev pub sentence_of : Lexicon → Rows → Sentence
 sentence_of lex r = sentence lex (ledger_of r)
 
--- Past the end of the marks nothing is marked.
+-- Past the end nothing is marked.
 abbrev pub nothing : DisjunctSet
 nothing = record { bits = 0 }
 

@@ -74,7 +74,8 @@ impl Rows {
         ensures edit { (lex : Lexicon) → Edited lex self.old self.new Drop result }
     {
         let last = self.entries.pop().ok_or(Refusal::NoWords)?;
-        self.clear_marks();
+        // Not by `clear_marks`: a word is gone and its marks may still stand, so the rows are not whole yet.
+        self.marked.clear();
         Ok(last.word)
     }
 

@@ -33,4 +33,5 @@ pub struct Rows {
     entries: ArrayVec<Entry, MOST_WORDS>,
     marked: ArrayVec<DisjunctSet, MOST_WORDS>,
     ghost few: { length entries.items ≤ most_words },
+    ghost within: { length marked.items ≤ length entries.items },
 }

@@ -1,9 +1,11 @@
-use Rattle.std.proofs.Common.{◌≡◌, IsSome, inl, inr, length, map, IfNone, subst, sym, refl, ap, ◌∙◌, arith}
+use Rattle.std.proofs.Common.{◌≡◌, IsSome, inl, inr, get_or, length, map, IfNone, subst, sym, refl, ap, ◌∙◌, arith}
 use Rattle.std.proofs.lemmas.Bool.{cases_lt, false≢true}
 use Rattle.std.proofs.lemmas.Result.{err_from_is_err_and}
 use Rattle.linkage.specs.declared.call.Call.TheVariants.{Drop}
 use Rattle.rows.proofs.Calls.{accepted, drops, refused_alike, still_wordless}
-use Rattle.rows.specs.Tables.{row}
+use Rattle.rows.proofs.Marks.{none_marked}
+use Rattle.rows.specs.Sets.{members}
+use Rattle.rows.specs.Tables.{nothing, row}
 use Rattle.rows.proofs.Rows.drop.Goals as goal
 
 pub returns-in_err-last-clause-edit : goal.returns-in_err-last-clause-edit
@@ -21,4 +23,4 @@ returns-in_err-last-clause-edit c =
 pub returns-clause-edit : goal.returns-clause-edit
 returns-clause-edit c =
     let r = c.args.self.now in
-    λ lex. accepted lex r Drop (c.clear_marks.ensures.ledger ∙ ap (map row) c.pop.ensures.rest ∙ drops r lex) c.clear_marks.ensures.marks
+    λ lex. accepted lex r Drop (ap (map row) c.pop.ensures.rest ∙ drops r lex) (ap (λ ms p. members (get_or ms p nothing)) c.clear.ensures ∙ none_marked)
