@@ -1,5 +1,5 @@
 -- What each call answers and makes of the ledger, by the entries of the rows: where it is refused, and where it is accepted.
-use Rattle.std.proofs.Common.{◌≡◌, ℕ, zero, suc, ◌-◌, ◌<◌, ◌≤◌, Bool, true, false, cond, not, ◌&&◌, ◌||◌, eqb, ltb, List, [], ◌∷◌, ◌++◌, length, map, take, set, Some, Ok, Err, subst, sym, refl, ap, ◌∙◌, ap₂, arith, take_all}
+use Rattle.std.proofs.Common.{◌≡◌, ℕ, zero, suc, ◌-◌, ◌<◌, ◌≤◌, Bool, true, false, cond, not, ◌&&◌, ◌||◌, eqb, ltb, List, [], ◌∷◌, ◌++◌, length, map, take, set, Some, Ok, Err, subst, subst₂, sym, refl, ap, ◌∙◌, ap₂, arith, take_all}
 use mir.Val.{bool_byte}
 use Rattle.std.proofs.Math.Bridge.{le_prop}
 use Rattle.std.specs.List.{slice_get}
@@ -7,7 +7,6 @@ use Rattle.std.specs.Option.{ok_or}
 use Rattle.std.proofs.lemmas.List.{get_or-map, length-map, map-append, set_past, take-map}
 use Rattle.std.proofs.lemmas.Option.{get_or_from_slice_get, slice_get_within}
 use Rattle.std.proofs.lemmas.Bool.{and_from, cond_above, cond_below, cond-false, cond-true, lt-ltb}
-use Rattle.arrayvec.specs.ArrayVec.{ArrayVec}
 use Rattle.refusal.specs.declared.Refusal.{Refusal}
 use Rattle.refusal.specs.declared.Refusal.TheVariants.{NoPosition, NoDisjunct}
 use Rattle.lexicon.specs.Lexicon.{Lexicon}
@@ -19,7 +18,6 @@ use Rattle.linkage.specs.Sentences.{unstruck}
 use Rattle.linkage.specs.Trims.{marked}
 use Rattle.rows.specs.declared.Entry.{Entry}
 use Rattle.rows.specs.declared.Rows.{Rows}
-use Rattle.rows.specs.declared.sets.DisjunctSet.{DisjunctSet}
 use Rattle.rows.specs.Answers.{Answer, counted, if_known, if_there, standing_of, word_of}
 use Rattle.rows.specs.Edits.{Edited, GoesOn}
 use Rattle.rows.specs.Sets.{members}
@@ -34,12 +32,9 @@ steps_more lex g (b ∷ cs) c = steps_more lex (step lex g b) cs c
 -- Rows are their entries and marks: their bounds are facts, each of which holds in one way.
 alike : (r s : Rows) → r.entries ≡ s.entries → r.marked ≡ s.marked → r ≡ s
 alike r s k m =
-    subst (λ es. (f : length es.items ≤ most_words) (ms : ArrayVec DisjunctSet) → r.marked ≡ ms → (w : length ms.items ≤ length es.items)
-    → ◌≡◌ {A = Rows} r (record { entries = es; marked = ms; few = f; within = w })) k
-    (λ f ms n. subst (λ ms. (w : length ms.items ≤ length r.entries.items)
-    → ◌≡◌ {A = Rows} r (record { entries = r.entries; marked = ms; few = f; within = w })) n
-    (λ w i. record { entries = r.entries; marked = r.marked; few = le_prop r.few f i; within = le_prop r.within w i }))
-    s.few s.marked m s.within
+    subst₂ (λ es ms. (f : length es.items ≤ most_words) (w : length ms.items ≤ length es.items)
+    → ◌≡◌ {A = Rows} r (record { entries = es; marked = ms; few = f; within = w })) k m
+    (λ f w i. record { entries = r.entries; marked = r.marked; few = le_prop r.few f i; within = le_prop r.within w i }) s.few s.within
 
 module _ (lex : Lexicon) (r : Rows) (c : Call) where
   goes_on : (h : Ledger) → h ≡ step lex (ledger_of r) c → GoesOn lex (ledger_of r) h c

@@ -26,7 +26,7 @@ struct Entry {
     struck: DisjunctSet,
 }
 
-/// The words of a sentence under work, each with the disjuncts that are struck; and those that are marked, position by position as far as marks go.
+/// The words of a sentence under work, each with the disjuncts that are struck; and those that are marked, position by position, as far as marks go and never past the words.
 // Marks stand apart, since each edit takes all of them off.
 #[derive(Drop)]
 pub struct Rows {

@@ -1,11 +1,10 @@
-use Rattle.std.proofs.Common.{◌≡◌, IsSome, inl, inr, get_or, length, map, IfNone, subst, sym, refl, ap, ◌∙◌, arith}
+use Rattle.std.proofs.Common.{◌≡◌, IsSome, inl, inr, length, map, IfNone, subst, sym, refl, ap, ◌∙◌, arith}
 use Rattle.std.proofs.lemmas.Bool.{cases_lt, false≢true}
 use Rattle.std.proofs.lemmas.Result.{err_from_is_err_and}
 use Rattle.linkage.specs.declared.call.Call.TheVariants.{Drop}
 use Rattle.rows.proofs.Calls.{accepted, drops, refused_alike, still_wordless}
-use Rattle.rows.proofs.Marks.{none_marked}
-use Rattle.rows.specs.Sets.{members}
-use Rattle.rows.specs.Tables.{nothing, row}
+use Rattle.rows.proofs.Marks.{cleared}
+use Rattle.rows.specs.Tables.{row}
 use Rattle.rows.proofs.Rows.drop.Goals as goal
 
 pub returns-in_err-last-clause-edit : goal.returns-in_err-last-clause-edit
@@ -23,4 +22,4 @@ returns-in_err-last-clause-edit c =
 pub returns-clause-edit : goal.returns-clause-edit
 returns-clause-edit c =
     let r = c.args.self.now in
-    λ lex. accepted lex r Drop (ap (map row) c.pop.ensures.rest ∙ drops r lex) (ap (λ ms p. members (get_or ms p nothing)) c.clear.ensures ∙ none_marked)
+    λ lex. accepted lex r Drop (ap (map row) c.pop.ensures.rest ∙ drops r lex) (cleared c.clear.ensures)
